@@ -1,0 +1,59 @@
+-- The laws of loops: what a loop's proof cites after a turn and after the last one. Assumes nothing.
+use mathlib.Core.Path.{_≡_, refl, ap, sym, _∙_}
+use Prim.Native.Nat.{ℕ, zero, suc, _+_, _-_, _≤_, _<_}
+use native.Mathlib.Omega.{arith}
+use Rattle.loops.specs.Loop.{turns, ranged, Flow, on, out, exits, searched}
+
+pub ranged-end : {S : Type 0} (f : ℕ → S → S) (a b : ℕ) (s : S) → b ≤ a → ranged f a b s ≡ s
+unfolding turns
+ranged-end f a b s h =
+    let e : b - a ≡ 0 = omega arith in
+    ap (λ (k : ℕ). turns f k a s) e
+
+pub ranged-step : {S : Type 0} (f : ℕ → S → S) (a b : ℕ) (s : S) → a < b → ranged f a b s ≡ ranged f (a + 1) b (f a s)
+unfolding turns
+ranged-step f a b s h =
+    let e : b - a ≡ suc (b - (a + 1)) = omega arith in
+    ap (λ (k : ℕ). turns f k a s) e
+
+-- a counting loop: the invariant after a turn, and what it says after the loop
+pub ranged-again : {S : Type 0} (f : ℕ → S → S) (a b : ℕ) {s t u : S} → a < b → t ≡ f a s → ranged f a b s ≡ u → ranged f (a + 1) b t ≡ u
+ranged-again f a b {s} h e i = ap (ranged f (a + 1) b) e ∙ sym (ranged-step f a b s h) ∙ i
+
+pub ranged-done : {S : Type 0} (f : ℕ → S → S) (a b : ℕ) {s u : S} → b ≤ a → ranged f a b s ≡ u → s ≡ u
+ranged-done f a b {s} h i = sym (ranged-end f a b s h) ∙ i
+
+pub searched-out : {S R : Type 0} (f : ℕ → S → Flow S R) (end : S → R) (a b : ℕ) (r : R) → searched f end a b (out r) ≡ r
+unfolding exits
+searched-out f end a b r = go (b - a)
+  where
+    go : (k : ℕ) → exits f end k a (out r) ≡ r
+    go zero = refl
+    go (suc k) = refl
+
+pub searched-end : {S R : Type 0} (f : ℕ → S → Flow S R) (end : S → R) (a b : ℕ) (s : S) → b ≤ a → searched f end a b (on s) ≡ end s
+unfolding exits
+searched-end f end a b s h =
+    let e : b - a ≡ 0 = omega arith in
+    ap (λ (k : ℕ). exits f end k a (on s)) e
+
+pub searched-step : {S R : Type 0} (f : ℕ → S → Flow S R) (end : S → R) (a b : ℕ) (s : S) → a < b
+    → searched f end a b (on s) ≡ searched f end (a + 1) b (f a s)
+unfolding exits
+searched-step f end a b s h =
+    let e : b - a ≡ suc (b - (a + 1)) = omega arith in
+    ap (λ (k : ℕ). exits f end k a (on s)) e
+
+-- a loop with an early way out: the invariant after a turn, the answer of a turn, and what holds after the last
+pub searched-again : {S R : Type 0} (f : ℕ → S → Flow S R) (end : S → R) (a b : ℕ) {s t : S} {u : R} → a < b → f a s ≡ on t
+    → searched f end a b (on s) ≡ u → searched f end (a + 1) b (on t) ≡ u
+searched-again f end a b {s} h e i = ap (searched f end (a + 1) b) (sym e) ∙ sym (searched-step f end a b s h) ∙ i
+
+pub searched-leave : {S R : Type 0} (f : ℕ → S → Flow S R) (end : S → R) (a b : ℕ) {s : S} {r u : R} → a < b → f a s ≡ out r
+    → searched f end a b (on s) ≡ u → r ≡ u
+searched-leave f end a b {s} {r} h e i =
+    sym (searched-out f end (a + 1) b r) ∙ ap (searched f end (a + 1) b) (sym e) ∙ sym (searched-step f end a b s h) ∙ i
+
+pub searched-done : {S R : Type 0} (f : ℕ → S → Flow S R) (end : S → R) (a b : ℕ) {s : S} {u : R} → b ≤ a
+    → searched f end a b (on s) ≡ u → end s ≡ u
+searched-done f end a b {s} h i = sym (searched-end f end a b s h) ∙ i

@@ -1,0 +1,34 @@
+-- What the helpers on binary64 numbers give. Definitions only.
+use Prim.Native.Nat.{ℕ}
+use mathlib.Core.Bool.{Bool, true, false, cond}
+use lib.Dec.{eqb}
+use lib.Ieee.{Float, nan, inf, fin, binary64, isNan, toBits}
+use Rattle.number.specs.Operators.{_<?_, _≤?_}
+
+-- "Absolute value clears the sign bit"; a NaN stays a NaN
+unfoldable pub absOf : Float → Float
+absOf nan = nan
+absOf (inf s) = inf false
+absOf (fin s m e) = fin false m e
+
+-- "Maximum and minimum drop a NaN when the other is a number"; of two equal ones the first is given
+unfoldable pub maxOf : Float → Float → Float
+unfolding isNan
+maxOf a b = cond (isNan a) b (cond (isNan b) a (cond (a <? b) b a))
+
+unfoldable pub minOf : Float → Float → Float
+unfolding isNan
+minOf a b = cond (isNan a) b (cond (isNan b) a (cond (b <? a) b a))
+
+-- "clamp gives the end overstepped, else the number itself"
+abbrev pub clampOf : Float → Float → Float → Float
+clampOf x lo hi = cond (x <? lo) lo (cond (hi <? x) hi x)
+
+-- not "not finite, or above the limit in magnitude": false at a NaN, and at an infinity under a finite limit
+abbrev pub magnitudeAtMost : Float → Float → Bool
+magnitudeAtMost x limit = absOf x ≤? limit
+
+-- equal in bits, "All NaNs count as one": the logic has one NaN with one pattern, and -0 has another pattern than +0
+unfoldable pub sameBits : Float → Float → Bool
+unfolding toBits
+sameBits a b = eqb (toBits binary64 a) (toBits binary64 b)
