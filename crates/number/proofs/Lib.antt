@@ -1,1 +1,5 @@
 pub mod Sign
+pub mod Compare
+pub mod Values
+pub mod Rounding
+pub mod Neighbours

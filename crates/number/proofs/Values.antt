@@ -1,0 +1,183 @@
+-- A finite binary64 as a whole number of units, 2 ^ -1074: `mag` with the sign `neg?`. The operations in those numbers. Assumes nothing.
+use mathlib.Core.Path.{_≡_, refl, sym, ap, _∙_, subst}
+use mathlib.Core.Logic.{_⊎_, inl, inr}
+use Prim.Native.Nat.{ℕ, zero, suc, _+_, _-_, _*_, _/_, _%_, _^_, _≤_, _<_}
+use native.Mathlib.Nat.{le-refl, le-trans, le-of-eq, mul-comm, mul-assoc, mul-left-comm, mul-right-comm, mul-pos, mul-div-cancel, add-mul, mul-sub, mul-lt-mul-of-pos-right, lt-of-mul-lt-mul-right, mul-mul-mul-comm}
+use native.Mathlib.Omega.{arith}
+use mathlib.Core.Bool.{Bool, true, false, not, _&&_, Bool·beq, cond}
+use lib.IntN.{ℤ, pos, negsuc}
+use lib.Dec.{T, leb, ltb, eqb, ltb→lt, lt→ltb, nltb→le}
+use lib.Pow.{pow-pos}
+use lib.Ieee.{Float, nan, inf, fin, Format, binary64, prec, emax, low, unlike, up, down, odd, units, round, neg, sum, add, sub, mul, ofFields, ofBits, toBits, fits}
+use lib.Ieee.Fits.{down-pos, round-is}
+use lib.Ieee.Bits.{ofBits-toBits}
+use lib.Ieee.Exact.{HasValue, odd-sign, units-val}
+use lib.Ieee.Scale.{round-same, grid, overflow, finite}
+use lib.Ieee.Order.{kept, drop}
+use Rattle.number.specs.Units.{unit, mag, neg?}
+
+-- x is ±a units
+abbrev pub Is : Float → Bool → ℕ → Type 0
+Is x s a = HasValue x s a unit
+
+pub is-own : (x : Float) (s : Bool) (a : ℕ) → Is x s a → (neg? x ≡ s) × (mag x ≡ a)
+is-own nan s a h = absurd h
+is-own (inf t) s a h = absurd h
+is-own (fin t m e) s a h = (h .0, ap (λ (n : ℕ). n / down e) (h .1) ∙ mul-div-cancel a (down-pos e))
+
+own-is : (x : Float) (s : Bool) (a : ℕ) → Is x s a → Is x (neg? x) (mag x)
+own-is x s a h =
+    let o = is-own x s a h in
+    subst (λ (t : Bool). Is x t (mag x)) (sym (o .0)) (subst (λ (n : ℕ). Is x s n) (sym (o .1)) h)
+
+-- ---- every finite value that fits is a whole number of units: p * 2 ^ j, with a p below 2 ^ 53
+abbrev pub Held : ℕ → Type 0
+Held c = (p : ℕ) × (j : ℕ) × (p < 2 ^ 53) × (c ≡ p * 2 ^ j)
+
+fields : (s : Bool) (x t : ℕ) → t < 2 ^ 52 → T (finite (ofFields binary64 s x t)) → (c : ℕ) × (Is (ofFields binary64 s x t) s c) × Held c
+unfolding ofFields
+fields s zero t l h = (t * 2 ^ 0, odd-sign 53 s t 0 1074, (t, 0, omega arith, refl))
+fields s (suc x) t l h = go (eqb (suc x) 2047) (eqb t 0) h
+  where
+    go : (b d : Bool) → T (finite (cond b (cond d (inf s) nan) (odd 53 s (2 ^ 52 + t) x 1074))) → (c : ℕ) × (Is (cond b (cond d (inf s) nan) (odd 53 s (2 ^ 52 + t) x 1074)) s c) × Held c
+    go true true h = absurd h
+    go true false h = absurd h
+    go false d h = ((2 ^ 52 + t) * 2 ^ x, odd-sign 53 s (2 ^ 52 + t) x 1074, (2 ^ 52 + t, x, omega arith, refl))
+
+-- the number of a pattern, by its three fields
+pub bits-is : (b : ℕ) → ofBits binary64 b ≡ ofFields binary64 (leb (2 ^ 63) b) (b % 2 ^ 63 / 2 ^ 52) (b % 2 ^ 52)
+unfolding ofBits
+bits-is b = refl
+
+own : (x : Float) → T (fits binary64 x) → T (finite x) → (Is x (neg? x) (mag x)) × Held (mag x)
+own x f h =
+    let b = toBits binary64 x in
+    let s = leb (2 ^ 63) b in
+    let e : ofFields binary64 s (b % 2 ^ 63 / 2 ^ 52) (b % 2 ^ 52) ≡ x = sym (bits-is b) ∙ ofBits-toBits binary64 x f in
+    let v = fields s (b % 2 ^ 63 / 2 ^ 52) (b % 2 ^ 52) (omega arith) (subst (λ (y : Float). T (finite y)) (sym e) h) in
+    let i : Is x s (v .0) = subst (λ (y : Float). Is y s (v .0)) e (v .1) in
+    (own-is x s (v .0) i, subst Held (sym (is-own x s (v .0) i .1)) (v .2))
+
+pub whole : (x : Float) → T (fits binary64 x) → T (finite x) → Is x (neg? x) (mag x)
+whole x f h = own x f h .0
+
+pub held : (x : Float) → T (fits binary64 x) → T (finite x) → Held (mag x)
+held x f h = own x f h .1
+
+-- ---- `round` of a / unit, or of any fraction
+pub units-under : (f : Format) (s : Bool) (q k : ℕ) → T (finite (units f s q k)) → q * 2 ^ k < overflow f
+unfolding units
+units-under f s q k = go (ltb (q * 2 ^ k) (overflow f)) (ltb→lt (q * 2 ^ k) (overflow f))
+  where
+    go : (b : Bool) → (T b → q * 2 ^ k < overflow f) → T (finite (cond b (odd (suc (prec f)) s q k (low f)) (inf s))) → q * 2 ^ k < overflow f
+    go true h t = h tt
+    go false h t = absurd t
+
+pub round-is-grid : (s : Bool) (a c : ℕ) → T (finite (round binary64 s a c)) → Is (round binary64 s a c) s (grid binary64 a c)
+round-is-grid s a c h =
+    let k = kept 53 (a * unit) c in
+    let j = drop 53 (a * unit) c in
+    let e = round-is binary64 s a c in
+    subst (λ (y : Float). Is y s (grid binary64 a c)) (sym e) (units-val binary64 s k j (units-under binary64 s k j (subst (λ (y : Float). T (finite y)) e h)))
+
+-- ---- sums
+cross : (x u d e a l : ℕ) → x * u * l ≡ a * e → x * u * d * l ≡ a * (e * d)
+cross x u d e a l h = mul-right-comm (x * u) d l ∙ ap (λ (k : ℕ). k * d) h ∙ mul-assoc a e d
+
+ltb-same : (a b x y : ℕ) → (x < y → a < b) → (a < b → x < y) → ltb a b ≡ ltb x y
+ltb-same a b x y f g = go (ltb a b) (ltb x y) (λ t. lt→ltb x y (g (ltb→lt a b t))) (λ t. lt→ltb a b (f (ltb→lt x y t)))
+  where
+    go : (p q : Bool) → (T p → T q) → (T q → T p) → p ≡ q
+    go true true m n = refl
+    go true false m n = absurd (m tt)
+    go false true m n = absurd (n tt)
+    go false false m n = refl
+
+module _ (A B C a b l : ℕ) (cp : 0 < C) (lp : 0 < l) (p : A * l ≡ a * C) (q : B * l ≡ b * C) where
+  order : ltb A B ≡ ltb a b
+  order = ltb-same A B a b
+      (λ h. lt-of-mul-lt-mul-right l (subst (λ (x : ℕ). x < B * l) (sym p) (subst (λ (x : ℕ). a * C < x) (sym q) (mul-lt-mul-of-pos-right h cp))))
+      (λ h. lt-of-mul-lt-mul-right C (subst (λ (x : ℕ). x < b * C) p (subst (λ (x : ℕ). A * l < x) q (mul-lt-mul-of-pos-right h lp))))
+
+  minus-cross : (A - B) * l ≡ (a - b) * C
+  minus-cross = mul-comm (A - B) l ∙ mul-sub l A B ∙ ap (λ (x : ℕ). x - l * B) (mul-comm l A ∙ p ∙ mul-comm a C) ∙ ap (λ (x : ℕ). C * a - x) (mul-comm l B ∙ q ∙ mul-comm b C) ∙ sym (mul-sub C a b) ∙ mul-comm C (a - b)
+
+-- ±a units and ±b units: `sum` sees only the values
+pub sum-same : (s t : Bool) (A B C a b l : ℕ) → 0 < C → 0 < l → A * l ≡ a * C → B * l ≡ b * C → sum binary64 s A t B C ≡ sum binary64 s a t b l
+unfolding sum
+sum-same s t A B C a b l cp lp p q = go (Bool·beq s t)
+  where
+    plus : (A + B) * l ≡ (a + b) * C
+    plus = add-mul A B l ∙ ap (λ (x : ℕ). x + B * l) p ∙ ap (λ (x : ℕ). a * C + x) q ∙ sym (add-mul a b C)
+
+    go : (k : Bool) → cond k (round binary64 s (A + B) C) (cond (ltb A B) (round binary64 t (B - A) C) (round binary64 (s && ltb B A) (A - B) C))
+        ≡ cond k (round binary64 s (a + b) l) (cond (ltb a b) (round binary64 t (b - a) l) (round binary64 (s && ltb b a) (a - b) l))
+    go true = round-same binary64 s (A + B) C (a + b) l cp lp plus
+    go false =
+        ap (λ (v : Bool). cond v (round binary64 t (B - A) C) (round binary64 (s && ltb B A) (A - B) C)) (order A B C a b l cp lp p q)
+        ∙ ap (λ (v : Float). cond (ltb a b) v (round binary64 (s && ltb B A) (A - B) C)) (round-same binary64 t (B - A) C (b - a) l cp lp (minus-cross B A C b a l cp lp q p))
+        ∙ ap (λ (v : Bool). cond (ltb a b) (round binary64 t (b - a) l) (round binary64 (s && v) (A - B) C)) (order B A C b a l cp lp q p)
+        ∙ ap (λ (v : Float). cond (ltb a b) (round binary64 t (b - a) l) v) (round-same binary64 (s && ltb b a) (A - B) C (a - b) l cp lp (minus-cross A B C a b l cp lp p q))
+
+pub add-is : (x y : Float) (s t : Bool) (a b : ℕ) → Is x s a → Is y t b → add binary64 x y ≡ sum binary64 s a t b unit
+unfolding add
+add-is nan y s t a b p q = absurd p
+add-is (inf u) y s t a b p q = absurd p
+add-is (fin u m e) nan s t a b p q = absurd q
+add-is (fin u m e) (inf v) s t a b p q = absurd q
+add-is (fin u m e) (fin v n d) s t a b p q =
+    ap (λ (k : Bool). sum binary64 k (m * up e * down d) v (n * up d * down e) (down e * down d)) (p .0)
+    ∙ ap (λ (k : Bool). sum binary64 s (m * up e * down d) k (n * up d * down e) (down e * down d)) (q .0)
+    ∙ sum-same s t (m * up e * down d) (n * up d * down e) (down e * down d) a b unit (mul-pos (down-pos e) (down-pos d)) (pow-pos 1074)
+    (cross m (up e) (down d) (down e) a unit (p .1))
+    (cross n (up d) (down e) (down d) b unit (q .1) ∙ ap (λ (k : ℕ). b * k) (mul-comm (down d) (down e)))
+
+pub neg-is : (x : Float) (s : Bool) (a : ℕ) → Is x s a → Is (neg x) (not s) a
+unfolding neg
+neg-is nan s a p = absurd p
+neg-is (inf u) s a p = absurd p
+neg-is (fin u m e) s a p = (ap not (p .0), p .1)
+
+pub sub-is : (x y : Float) (s t : Bool) (a b : ℕ) → Is x s a → Is y t b → sub binary64 x y ≡ sum binary64 s a (not t) b unit
+unfolding sub
+sub-is x y s t a b p q = add-is x (neg y) s (not t) a b p (neg-is y t b q)
+
+pub mul-is : (x y : Float) (s t : Bool) (a b : ℕ) → Is x s a → Is y t b → mul binary64 x y ≡ round binary64 (unlike s t) (a * b) (unit * unit)
+unfolding mul
+mul-is nan y s t a b p q = absurd p
+mul-is (inf u) y s t a b p q = absurd p
+mul-is (fin u m e) nan s t a b p q = absurd q
+mul-is (fin u m e) (inf v) s t a b p q = absurd q
+mul-is (fin u m e) (fin v n d) s t a b p q =
+    ap (λ (k : Bool). round binary64 (unlike k v) (m * up e * (n * up d)) (down e * down d)) (p .0)
+    ∙ ap (λ (k : Bool). round binary64 (unlike s k) (m * up e * (n * up d)) (down e * down d)) (q .0)
+    ∙ round-same binary64 (unlike s t) (m * up e * (n * up d)) (down e * down d) (a * b) (unit * unit) (mul-pos (down-pos e) (down-pos d)) (mul-pos (pow-pos 1074) (pow-pos 1074))
+    (mul-mul-mul-comm (m * up e) (n * up d) unit unit ∙ ap (λ (k : ℕ). k * (n * up d * unit)) (p .1) ∙ ap (λ (k : ℕ). a * down e * k) (q .1) ∙ mul-mul-mul-comm a (down e) b (down d))
+
+-- ---- the distance of ±a and ±b, and a difference's size
+abbrev pub apart : Bool → ℕ → Bool → ℕ → ℕ
+apart s a t b = cond (Bool·beq s t) (a - b + (b - a)) (a + b)
+
+pub sum-mag : (s t : Bool) (a b : ℕ) → T (finite (sum binary64 s a (not t) b unit)) → mag (sum binary64 s a (not t) b unit) ≡ grid binary64 (apart s a t b) unit
+unfolding sum
+sum-mag s t a b = go s t
+  where
+    at : (u : Bool) (d e : ℕ) → d ≡ e → T (finite (round binary64 u d unit)) → mag (round binary64 u d unit) ≡ grid binary64 e unit
+    at u d e p h = is-own (round binary64 u d unit) u (grid binary64 d unit) (round-is-grid u d unit h) .1 ∙ ap (λ (k : ℕ). grid binary64 k unit) p
+
+    less : (a b : ℕ) → a < b → b - a ≡ a - b + (b - a)
+    less a b h = omega arith
+
+    more : (a b : ℕ) → b ≤ a → a - b ≡ a - b + (b - a)
+    more a b h = omega arith
+
+    dif : (u v : Bool) (k : Bool) → (T k → a < b) → (T (not k) → b ≤ a) → T (finite (cond k (round binary64 u (b - a) unit) (round binary64 v (a - b) unit)))
+        → mag (cond k (round binary64 u (b - a) unit) (round binary64 v (a - b) unit)) ≡ grid binary64 (a - b + (b - a)) unit
+    dif u v true f g h = at u (b - a) (a - b + (b - a)) (less a b (f tt)) h
+    dif u v false f g h = at v (a - b) (a - b + (b - a)) (more a b (g tt)) h
+
+    go : (s t : Bool) → T (finite (sum binary64 s a (not t) b unit)) → mag (sum binary64 s a (not t) b unit) ≡ grid binary64 (apart s a t b) unit
+    go true true h = dif false (true && ltb b a) (ltb a b) (ltb→lt a b) (nltb→le a b) h
+    go true false h = at true (a + b) (a + b) refl h
+    go false true h = at false (a + b) (a + b) refl h
+    go false false h = dif true (false && ltb b a) (ltb a b) (ltb→lt a b) (nltb→le a b) h
