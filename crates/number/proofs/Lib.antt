@@ -3,3 +3,6 @@ pub mod Compare
 pub mod Values
 pub mod Rounding
 pub mod Neighbours
+pub mod Finite
+pub mod Symmetry
+pub mod Order
