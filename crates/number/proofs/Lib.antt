@@ -6,3 +6,5 @@ pub mod Neighbours
 pub mod Finite
 pub mod Symmetry
 pub mod Order
+pub mod Sums
+pub mod Scaling

@@ -6,18 +6,19 @@ use Prim.Native.Nat.{ℕ, zero, suc, _+_, _-_, _*_, _≤_, _<_, zero-le}
 use native.Mathlib.Nat.{le-refl, le-trans, le-of-eq, le-antisymm, eq-or-lt-of-le, mul-comm, mul-right-comm, mul-assoc, mul-le-mul-right, le-of-mul-le-mul-right, mul-pos, zero-mul, suc-mul, add-comm}
 use native.Mathlib.Omega.{arith}
 use mathlib.Core.Bool.{Bool, true, false, not, _&&_, _||_, Bool·beq, cond}
-use lib.IntN.{ℤ, pos, negsuc, negℤ}
+use lib.IntN.{ℤ}
 use lib.Signed.{leZ, _≤ℤ_, leZ-yes}
-use lib.Dec.{T, leb, leb→le, le→leb, ltb, eqb, ltb→lt, lt→ltb, nltb→le, eqb→eq, eqb-refl}
+use lib.Dec.{T, leb, leb→le, le→leb, ltb, eqb, ltb→lt, nltb→le, eqb→eq, eqb-refl, lit<}
 use lib.Arith.{le→nltb}
 use lib.Pow.{pow-pos}
-use lib.Ieee.{Float, nan, inf, fin, binary64, up, down, isNan, fits, lt, eq, le, below, level}
+use lib.Ieee.{Float, nan, inf, fin, binary64, up, down, isNan, fits, round, neg, lt, eq, le, below, level}
 use lib.Ieee.Fits.{down-pos}
-use lib.Ieee.Scale.{finite}
-use lib.Ieee.Bits.{is-true, is-false}
+use lib.Ieee.Scale.{finite, round-same}
+use lib.Ieee.Order.{round-mono}
 use Rattle.number.specs.Operators.{_<?_, _≤?_}
 use Rattle.number.specs.Units.{unit, mag, neg?, signed, inUnits}
 use Rattle.number.proofs.Values.{Is, whole}
+use Rattle.number.proofs.Symmetry.{round-neg}
 
 -- ---- ±a ≤ ±b, for two whole numbers with signs
 
@@ -221,6 +222,61 @@ le-through (fin s m e) (fin t n d) (inf true) p q = unfold le in absurd q
 le-through (fin s m e) (fin t n d) (inf false) p q = unfold le in tt
 le-through (fin s m e) (fin t n d) (fin u k c) p q =
     Le→le s u m k e c (thirds s t u (m * up e) (n * up d) (k * up c) (down e) (down d) (down c) (down-pos e) (down-pos d) (down-pos c) (le→Le s t m n e d p) (le→Le t u n k d c q))
+
+-- signs turned, the order is turned
+Le-turn : (s t : Bool) (a b : ℕ) → Le s a t b → Le (not t) b (not s) a
+Le-turn false false a b h = h
+Le-turn false true a b h = omega arith
+Le-turn true false a b h = tt
+Le-turn true true a b h = h
+
+pub neg-le : (x y : Float) → T (x ≤? y) → T (neg y ≤? neg x)
+unfolding neg
+neg-le nan y h = unfold le in absurd h
+neg-le (inf s) nan h = unfold le in absurd h
+neg-le (inf true) (inf true) h = unfold le in tt
+neg-le (inf true) (inf false) h = unfold le in tt
+neg-le (inf false) (inf true) h = unfold le in absurd h
+neg-le (inf false) (inf false) h = unfold le in tt
+neg-le (inf true) (fin t n d) h = unfold le in tt
+neg-le (inf false) (fin t n d) h = unfold le in absurd h
+neg-le (fin s m e) nan h = unfold le in absurd h
+neg-le (fin s m e) (inf true) h = unfold le in absurd h
+neg-le (fin s m e) (inf false) h = unfold le in tt
+neg-le (fin s m e) (fin t n d) h = Le→le (not t) (not s) n m d e (Le-turn s t (m * up e * down d) (n * up d * down e) (le→Le s t m n e d h))
+
+-- rounding keeps the order of ±a / c and ±b / c
+round-zero : (s t : Bool) (c : ℕ) → 0 < c → T (round binary64 s 0 c ≤? round binary64 t 0 c)
+round-zero s t c C =
+    subst (λ (x : Float). T (x ≤? round binary64 t 0 c)) (same-zero s) (subst (λ (x : Float). T (round binary64 s 0 1 ≤? x)) (same-zero t) (closed s t))
+  where
+    same-zero : (s : Bool) → round binary64 s 0 1 ≡ round binary64 s 0 c
+    same-zero s = round-same binary64 s 0 1 0 c (lit< tt) C (zero-mul c ∙ sym (zero-mul 1))
+
+    closed : (s t : Bool) → T (round binary64 s 0 1 ≤? round binary64 t 0 1)
+    closed true true = unfold round le in tt
+    closed true false = unfold round le in tt
+    closed false true = unfold round le in tt
+    closed false false = unfold round le in tt
+
+above-zero : (a b c : ℕ) → 0 < c → a ≤ b → T (round binary64 false a c ≤? round binary64 false b c)
+above-zero a b c C h = round-mono binary64 a c b c C C (mul-le-mul-right c h)
+
+below-zero : (a b c : ℕ) → 0 < c → b ≤ a → T (round binary64 true a c ≤? round binary64 true b c)
+below-zero a b c C h =
+    subst (λ (x : Float). T (x ≤? round binary64 true b c)) (sym (round-neg false a c)) (subst (λ (x : Float). T (neg (round binary64 false a c) ≤? x)) (sym (round-neg false b c))
+    (neg-le (round binary64 false b c) (round binary64 false a c) (above-zero b a c C h)))
+
+pub round-le : (s t : Bool) (a b c : ℕ) → 0 < c → Le s a t b → T (round binary64 s a c ≤? round binary64 t b c)
+round-le false false a b c C h = above-zero a b c C h
+round-le true true a b c C h = below-zero a b c C h
+round-le true false a b c C h =
+    le-through (round binary64 true a c) (round binary64 true 0 c) (round binary64 false b c) (below-zero a 0 c C zero-le)
+    (le-through (round binary64 true 0 c) (round binary64 false 0 c) (round binary64 false b c) (round-zero true false c C) (above-zero 0 b c C zero-le))
+round-le false true a b c C h =
+    let x : 0 ≡ a = omega arith in
+    let y : 0 ≡ b = omega arith in
+    subst (λ (n : ℕ). T (round binary64 false n c ≤? round binary64 true b c)) x (subst (λ (n : ℕ). T (round binary64 false 0 c ≤? round binary64 true n c)) y (round-zero false true c C))
 
 -- ---- `<` and `<=` together
 

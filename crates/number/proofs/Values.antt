@@ -2,14 +2,14 @@
 use mathlib.Core.Path.{_≡_, refl, sym, ap, _∙_, subst}
 use mathlib.Core.Logic.{_⊎_, inl, inr}
 use Prim.Native.Nat.{ℕ, zero, suc, _+_, _-_, _*_, _/_, _%_, _^_, _≤_, _<_}
-use native.Mathlib.Nat.{le-refl, le-trans, le-of-eq, mul-comm, mul-assoc, mul-left-comm, mul-right-comm, mul-pos, mul-div-cancel, add-mul, mul-sub, mul-lt-mul-of-pos-right, lt-of-mul-lt-mul-right, mul-mul-mul-comm}
+use native.Mathlib.Nat.{le-refl, le-trans, le-of-eq, mul-comm, mul-assoc, mul-left-comm, mul-right-comm, mul-pos, mul-div-cancel, add-mul, mul-sub, mul-lt-mul-of-pos-right, lt-of-mul-lt-mul-right, mul-mul-mul-comm, lt-of-le-of-lt, lt-of-lt-of-le, lt-irrefl, zero-mul, zero-lt-suc}
 use native.Mathlib.Omega.{arith}
 use mathlib.Core.Bool.{Bool, true, false, not, _&&_, Bool·beq, cond}
 use lib.IntN.{ℤ, pos, negsuc}
 use lib.Dec.{T, leb, ltb, eqb, ltb→lt, lt→ltb, nltb→le}
 use lib.Pow.{pow-pos}
-use lib.Ieee.{Float, nan, inf, fin, Format, binary64, prec, emax, low, unlike, up, down, odd, units, round, neg, sum, add, sub, mul, ofFields, ofBits, toBits, fits}
-use lib.Ieee.Fits.{down-pos, round-is}
+use lib.Ieee.{Float, nan, inf, fin, Format, binary64, prec, emax, low, unlike, up, down, odd, units, round, neg, sum, add, sub, mul, ofFields, ofBits, toBits, fits, isNan}
+use lib.Ieee.Fits.{and-r, down-pos, round-is}
 use lib.Ieee.Bits.{ofBits-toBits}
 use lib.Ieee.Exact.{HasValue, odd-sign, units-val}
 use lib.Ieee.Scale.{round-same, grid, overflow, finite}
@@ -24,6 +24,12 @@ pub is-own : (x : Float) (s : Bool) (a : ℕ) → Is x s a → (neg? x ≡ s) ×
 is-own nan s a h = absurd h
 is-own (inf t) s a h = absurd h
 is-own (fin t m e) s a h = (h .0, ap (λ (n : ℕ). n / down e) (h .1) ∙ mul-div-cancel a (down-pos e))
+
+pub is-number : (x : Float) (s : Bool) (a : ℕ) → Is x s a → T (not (isNan x))
+unfolding isNan
+is-number nan s a h = absurd h
+is-number (inf t) s a h = tt
+is-number (fin t m e) s a h = tt
 
 own-is : (x : Float) (s : Bool) (a : ℕ) → Is x s a → Is x (neg? x) (mag x)
 own-is x s a h =
@@ -181,3 +187,19 @@ sum-mag s t a b = go s t
     go true false h = at true (a + b) (a + b) refl h
     go false true h = at false (a + b) (a + b) refl h
     go false false h = dif true (false && ltb b a) (ltb a b) (ltb→lt a b) (nltb→le a b) h
+
+-- a finite value is below 2 ^ 2098 units
+pub below-top : (x : Float) (s : Bool) (a : ℕ) → T (fits binary64 x) → Is x s a → a < 2 ^ 2098
+unfolding fits
+below-top nan s a f v = absurd v
+below-top (inf t) s a f v = absurd v
+below-top (fin t zero e) s a f v = lt-of-le-of-lt (le-of-eq (none a (down e) (down-pos e) (v .1))) (pow-pos 2098)
+  where
+    none : (a d : ℕ) → 0 < d → zero * up e * unit ≡ a * d → a ≡ 0
+    none zero d D h = refl
+    none (suc a) d D h = absurd (lt-irrefl 0 (subst (λ (k : ℕ). 0 < k) (sym h ∙ ap (λ (k : ℕ). k * unit) (zero-mul (up e)) ∙ zero-mul unit) (mul-pos (zero-lt-suc a) D)))
+below-top (fin t (suc m) e) s a f v =
+    lt-of-mul-lt-mul-right (down e)
+    (lt-of-le-of-lt (le-of-eq (sym (v .1)))
+    (lt-of-lt-of-le (mul-lt-mul-of-pos-right (ltb→lt (suc m * up e) (2 ^ 1024 * down e) (and-r (eqb (suc m % 2) 1 && ltb (suc m) (2 ^ 53) && leb (down e) (2 ^ 1074)) (ltb (suc m * up e) (2 ^ 1024 * down e)) f)) (pow-pos 1074))
+    (le-of-eq (mul-right-comm (2 ^ 1024) (down e) unit))))
