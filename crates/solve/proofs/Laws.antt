@@ -1,0 +1,59 @@
+-- What one turn of each loop computes, for any size n, and what the solvers' loop does in a column. Assumes nothing.
+use mathlib.Core.Path.{_≡_, refl, ap}
+use mathlib.Core.List.{List, []}
+use mathlib.Core.Bool.{Bool, true, false}
+use Prim.Native.Nat.{ℕ, _+_, _-_}
+use lib.ListN.{getD, set}
+use lib.Ieee.{Float, nan}
+use Rattle.loops.specs.Loop.{pick, Flow, on, out}
+use Rattle.number.specs.Operators.{_⊖_, _⊗_, _⊘_, _≤?_}
+use Rattle.number.specs.Helpers.{absOf}
+use Rattle.solve.specs.Solve.{System, system, cell, factorOf, lessOf, clearRow, restOf, backRow, pivotOf, swapOf, clearedOf, column, Answer, singular, determinantOf, scale2Of, thresholdOf, cramerOf, solve2Of}
+use Rattle.solve.specs.declared.Solved2.{Solved2}
+use Rattle.solve.specs.declared.Solved2.the-variants.{Solution, Singular}
+
+-- a row is cleared, and its right side follows
+pub row-cleared : (n col row : ℕ) (m : List (List Float)) (b : List Float) {r : List Float}
+    → r ≡ lessOf n (getD m row []) (getD m col []) (factorOf m col row) col
+    → system (set m row r) (set b row (getD b row nan ⊖ factorOf m col row ⊗ getD b col nan)) ≡ clearRow n col row (system m b)
+row-cleared n col row m b e = rw e
+
+-- an entry of the solution is found
+pub row-solved : (n row : ℕ) (m : List (List Float)) (b x : List Float) {acc : Float}
+    → acc ≡ restOf n (getD m row []) x (row + 1) (getD b row nan)
+    → set x row (acc ⊘ cell m row row) ≡ backRow n (system m b) row x
+row-solved n row m b x e = rw e
+
+module _
+    (n : ℕ)
+    (least : Float)
+    (col : ℕ)
+    (m : List (List Float))
+    (b : List Float)
+    {rows : List (List Float)}
+    {right : List Float}
+    {p : ℕ}
+    {v : Float}
+    (ep : p ≡ pivotOf n m col)
+    (er : rows ≡ swapOf [] m col p)
+    (es : right ≡ swapOf nan b col p)
+    (ev : v ≡ absOf (cell rows col col))
+    where
+  at-pivot : (t : Bool) → (v ≤? least) ≡ t → column n least col (system m b) ≡ pick t (out singular) (on (clearedOf n col (system rows right)))
+  at-pivot t h = rw (es, ← h, ev, er, ep)
+
+  -- a column whose pivot exceeds the least: the loop goes on with the rows below it cleared
+  pub column-on : {next : List (List Float)} {side : List Float} → (v ≤? least) ≡ false → system next side ≡ clearedOf n col (system rows right)
+      → column n least col (system m b) ≡ on (system next side)
+  column-on h e = rw e (at-pivot false h)
+
+  -- a column whose pivot doesn't: the loop is left
+  pub column-out : (v ≤? least) ≡ true → column n least col (system m b) ≡ out singular
+  column-out h = at-pivot true h
+
+-- what `solve_2x2` answers by its test
+pub at-determinant : (a : List (List Float)) (b : List Float) (tol : Float) {det scale least v : Float} {t : Bool}
+    → det ≡ determinantOf a → scale ≡ scale2Of a → least ≡ thresholdOf tol scale → v ≡ absOf det → (v ≤? least) ≡ t
+    → pick t Singular (Solution (cramerOf a b det)) ≡ solve2Of a b tol
+unfolding solve2Of
+at-determinant a b tol ed es el ev et = rw (← et, ev, el, es, ed)
