@@ -2,15 +2,23 @@
 use mathlib.Core.Path.{_≡_, refl, ap}
 use mathlib.Core.List.{List, []}
 use mathlib.Core.Bool.{Bool, true, false}
-use Prim.Native.Nat.{ℕ, _+_, _-_}
+use Prim.Native.Nat.{ℕ, _+_, _-_, _<_}
 use lib.ListN.{getD, set}
 use lib.Ieee.{Float, nan}
 use Rattle.loops.specs.Loop.{pick, Flow, on, out}
-use Rattle.number.specs.Operators.{_⊖_, _⊗_, _⊘_, _≤?_}
+use Rattle.number.specs.Operators.{_⊖_, _⊗_, _⊘_, _<?_, _≤?_}
 use Rattle.number.specs.Helpers.{absOf}
-use Rattle.solve.specs.Solve.{System, system, cell, factorOf, lessOf, clearRow, restOf, backRow, pivotOf, swapOf, clearedOf, column, Answer, singular, determinantOf, scale2Of, thresholdOf, cramerOf, solve2Of}
+use Rattle.solve.specs.Solve.{System, system, cell, better, factorOf, lessOf, clearRow, restOf, backRow, pivotOf, swapOf, clearedOf, column, Answer, singular, determinantOf, scale2Of, thresholdOf, cramerOf, solve2Of}
 use Rattle.solve.specs.declared.Solved2.{Solved2}
 use Rattle.solve.specs.declared.Solved2.the-variants.{Solution, Singular}
+
+-- the better of two rows is a row
+pub better-below : (n : ℕ) (m : List (List Float)) (col row pivot : ℕ) {r : ℕ} → r ≡ better m col row pivot → row < n → pivot < n → r < n
+better-below n m col row pivot e hr hp = rw e (go (absOf (cell m pivot col) <? absOf (cell m row col)))
+  where
+    go : (t : Bool) → pick t row pivot < n
+    go true = hr
+    go false = hp
 
 -- a row is cleared, and its right side follows
 pub row-cleared : (n col row : ℕ) (m : List (List Float)) (b : List Float) {r : List Float}
@@ -38,18 +46,18 @@ module _
     (er : rows ≡ swapOf [] m col p)
     (es : right ≡ swapOf nan b col p)
     (ev : v ≡ absOf (cell rows col col))
-    where
-  at-pivot : (t : Bool) → (v ≤? least) ≡ t → column n least col (system m b) ≡ pick t (out singular) (on (clearedOf n col (system rows right)))
-  at-pivot t h = rw (es, ← h, ev, er, ep)
+  where
+    at-pivot : (t : Bool) → (v ≤? least) ≡ t → column n least col (system m b) ≡ pick t (out singular) (on (clearedOf n col (system rows right)))
+    at-pivot t h = rw (es, ← h, ev, er, ep)
 
-  -- a column whose pivot exceeds the least: the loop goes on with the rows below it cleared
-  pub column-on : {next : List (List Float)} {side : List Float} → (v ≤? least) ≡ false → system next side ≡ clearedOf n col (system rows right)
-      → column n least col (system m b) ≡ on (system next side)
-  column-on h e = rw e (at-pivot false h)
+    -- a column whose pivot exceeds the least: the loop goes on with the rows below it cleared
+    pub column-on : {next : List (List Float)} {side : List Float} → (v ≤? least) ≡ false → system next side ≡ clearedOf n col (system rows right)
+        → column n least col (system m b) ≡ on (system next side)
+    column-on h e = rw e (at-pivot false h)
 
-  -- a column whose pivot doesn't: the loop is left
-  pub column-out : (v ≤? least) ≡ true → column n least col (system m b) ≡ out singular
-  column-out h = at-pivot true h
+    -- a column whose pivot doesn't: the loop is left
+    pub column-out : (v ≤? least) ≡ true → column n least col (system m b) ≡ out singular
+    column-out h = at-pivot true h
 
 -- what `solve_2x2` answers by its test
 pub at-determinant : (a : List (List Float)) (b : List Float) (tol : Float) {det scale least v : Float} {t : Bool}

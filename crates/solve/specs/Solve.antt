@@ -39,8 +39,11 @@ abbrev pub scaleOf : ℕ → List (List Float) → Float
 scaleOf n m = ranged (addRow n m) 0 n (bits 0x8000_0000_0000_0000)
 
 -- "picks in each column the first entry of greatest magnitude (a NaN neither displaces nor is displaced)"
+abbrev pub greaterOf : Float → Float → ℕ → ℕ → ℕ
+greaterOf held entry pivot row = pick (absOf held <? absOf entry) row pivot
+
 abbrev pub better : List (List Float) → ℕ → ℕ → ℕ → ℕ
-better m col row p = pick (absOf (cell m p col) <? absOf (cell m row col)) row p
+better m col row pivot = greaterOf (cell m pivot col) (cell m row col) pivot row
 
 abbrev pub pivotOf : ℕ → List (List Float) → ℕ → ℕ
 pivotOf n m col = ranged (better m col) (col + 1) n col
@@ -137,7 +140,8 @@ abbrev pub cramerOf : List (List Float) → List Float → Float → Solution2
 cramerOf a b det =
     record {
       x0 = (getD b 0 nan ⊗ cell a 1 1 ⊖ getD b 1 nan ⊗ cell a 0 1) ⊘ det;
-      x1 = (cell a 0 0 ⊗ getD b 1 nan ⊖ cell a 1 0 ⊗ getD b 0 nan) ⊘ det }
+      x1 = (cell a 0 0 ⊗ getD b 1 nan ⊖ cell a 1 0 ⊗ getD b 0 nan) ⊘ det;
+    }
 
 unfoldable pub solve2Of : List (List Float) → List Float → Float → Solved2
 solve2Of a b tol =

@@ -8,7 +8,7 @@ ghost use mathlib.Core.List.{[]};
 ghost use lib.Ieee.{nan};
 ghost use lib.ListN.{length};
 ghost use Prim.Native.Nat.{_+_, _<_, _≤_};
-ghost use Rattle.solve.specs.Solve.{thresholdOf, determinantOf, scale2Of, cramerOf, solve2Of, solve3Of, solve4Of, magnitudesOf, scaleOf, better, pivotOf, swapOf, lessOf, system, clearedOf, restOf, backOf};
+ghost use Rattle.solve.specs.Solve.{thresholdOf, determinantOf, scale2Of, cramerOf, solve2Of, solve3Of, solve4Of, magnitudesOf, scaleOf, greaterOf, pivotOf, swapOf, lessOf, system, clearedOf, restOf, backOf};
 
 pub struct Solution2 {
     pub x0: f64,
@@ -60,6 +60,17 @@ fn magnitudes(row: &[f64], n: usize, sum: f64) -> f64
         sum = sum + number::abs(row[k]);
     }
     sum
+}
+
+// The row, where its entry is greater in magnitude than the one held so far; else the pivot so far. A NaN is never greater.
+fn greater(held: f64, entry: f64, pivot: usize, row: usize) -> usize
+    ensures { λ r. ⌜ r ≡ greaterOf held entry pivot row ⌝ }
+{
+    if number::abs(held) < number::abs(entry) {
+        row
+    } else {
+        pivot
+    }
 }
 
 // The row less factor times the pivot's row, from column col on.
@@ -151,18 +162,6 @@ fn scale3(m: [[f64; 3]; 3]) -> f64
     sum
 }
 
-// The row, where its entry in column col is greater in magnitude than the pivot's; else the pivot. False of a NaN.
-fn better3(m: [[f64; 3]; 3], col: usize, row: usize, pivot: usize) -> usize
-    requires { ⌜ (col < 3) × ((row < 3) × (pivot < 3)) ⌝ }
-    ensures { λ r. ⌜ (r ≡ better m col row pivot) × (r < 3) ⌝ }
-{
-    if number::abs(m[pivot][col]) < number::abs(m[row][col]) {
-        row
-    } else {
-        pivot
-    }
-}
-
 // The row, from col down, of the first entry of greatest magnitude in column col.
 fn pivot3(m: [[f64; 3]; 3], col: usize) -> usize
     requires { ⌜ col < 3 ⌝ }
@@ -170,7 +169,7 @@ fn pivot3(m: [[f64; 3]; 3], col: usize) -> usize
 {
     let mut pivot = col;
     for row in col + 1..3 {
-        pivot = better3(m, col, row, pivot);
+        pivot = greater(m[pivot][col], m[row][col], pivot, row);
     }
     pivot
 }
@@ -248,5 +247,123 @@ pub fn solve_3x3(a: [[f64; 3]; 3], b: [f64; 3], tol: f64) -> Solved3
         x0: x[0],
         x1: x[1],
         x2: x[2],
+    })
+}
+
+// The same for four unknowns.
+fn magnitudes4(row: [f64; 4], sum: f64) -> f64
+    ensures { λ r. ⌜ r ≡ magnitudesOf 4 row sum ⌝ }
+{
+    magnitudes(&row, 4, sum)
+}
+
+fn clear4(row: [f64; 4], pivot: [f64; 4], factor: f64, col: usize) -> [f64; 4]
+    requires { ⌜ col < 4 ⌝ }
+    ensures { λ r. ⌜ r ≡ lessOf 4 row pivot factor col ⌝ }
+{
+    let mut row = row;
+    clear(&mut row, &pivot, 4, factor, col);
+    row
+}
+
+fn rest4(row: [f64; 4], x: [f64; 4], from: usize, acc: f64) -> f64
+    requires { ⌜ from ≤ 4 ⌝ }
+    ensures { λ r. ⌜ r ≡ restOf 4 row x from acc ⌝ }
+{
+    rest(&row, &x, 4, from, acc)
+}
+
+fn scale4(m: [[f64; 4]; 4]) -> f64
+    ensures { λ r. ⌜ r ≡ scaleOf 4 m ⌝ }
+{
+    let mut sum = -0.0;
+    for i in 0..4 {
+        sum = magnitudes4(m[i], sum);
+    }
+    sum
+}
+
+fn pivot4(m: [[f64; 4]; 4], col: usize) -> usize
+    requires { ⌜ col < 4 ⌝ }
+    ensures { λ r. ⌜ (r ≡ pivotOf 4 m col) × (r < 4) ⌝ }
+{
+    let mut pivot = col;
+    for row in col + 1..4 {
+        pivot = greater(m[pivot][col], m[row][col], pivot, row);
+    }
+    pivot
+}
+
+fn swap_rows4(m: [[f64; 4]; 4], i: usize, j: usize) -> [[f64; 4]; 4]
+    requires { ⌜ (i < 4) × (j < 4) ⌝ }
+    ensures { λ r. ⌜ r ≡ swapOf [] m i j ⌝ }
+{
+    let mut m = m;
+    let row = m[i];
+    m[i] = m[j];
+    m[j] = row;
+    m
+}
+
+fn swap4(b: [f64; 4], i: usize, j: usize) -> [f64; 4]
+    requires { ⌜ (i < 4) × (j < 4) ⌝ }
+    ensures { λ r. ⌜ r ≡ swapOf nan b i j ⌝ }
+{
+    let mut b = b;
+    let x = b[i];
+    b[i] = b[j];
+    b[j] = x;
+    b
+}
+
+fn eliminate4(m: [[f64; 4]; 4], b: &mut [f64; 4], col: usize) -> [[f64; 4]; 4]
+    requires { ⌜ col < 4 ⌝ }
+    ensures { λ r. ⌜ system r (now (b .exit)) ≡ clearedOf 4 col (system m (now (b .entry))) ⌝ }
+{
+    let mut m = m;
+    for row in col + 1..4 {
+        let factor = m[row][col] / m[col][col];
+        let cleared = clear4(m[row], m[col], factor, col);
+        m[row] = cleared;
+        b[row] = b[row] - factor * b[col];
+    }
+    m
+}
+
+fn back4(m: [[f64; 4]; 4], b: [f64; 4]) -> [f64; 4]
+    ensures { λ r. ⌜ r ≡ backOf 4 (system m b) ⌝ }
+{
+    let mut x = [0.0; 4];
+    for i in 0..4 {
+        let row = 3 - i;
+        let acc = rest4(m[row], x, row + 1, b[row]);
+        x[row] = acc / m[row][row];
+    }
+    x
+}
+
+pub fn solve_4x4(a: [[f64; 4]; 4], b: [f64; 4], tol: f64) -> Solved4
+    ensures { λ r. ⌜ r ≡ solve4Of a b tol ⌝ }
+{
+    let least = threshold(tol, scale4(a));
+    let mut m = a;
+    let mut b = b;
+    for col in 0..4 {
+        let pivot = pivot4(m, col);
+        let rows = swap_rows4(m, col, pivot);
+        let mut right = swap4(b, col, pivot);
+        if number::abs(rows[col][col]) <= least {
+            return Solved4::Singular;
+        }
+        let cleared = eliminate4(rows, &mut right, col);
+        m = cleared;
+        b = right;
+    }
+    let x = back4(m, b);
+    Solved4::Solution(Solution4 {
+        x0: x[0],
+        x1: x[1],
+        x2: x[2],
+        x3: x[3],
     })
 }

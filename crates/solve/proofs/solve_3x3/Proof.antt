@@ -1,3 +1,4 @@
+use Rattle.solve.specs.Solve.{system, solving, solveOf, solve3Of, answer3, solution}
 use mathlib.Core.Path.{_≡_, refl, ap, _∙_}
 use Prim.Native.Nat.{_-_, _≤_, _<_, _+_}
 use Rattle.loops.proofs.Loop.{searched-again, searched-leave, searched-done}
