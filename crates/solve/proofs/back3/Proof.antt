@@ -1,16 +1,14 @@
+-- `solve::back3` meets its contract: each turn finds an entry, from the last up. Assumes nothing.
 use mathlib.Core.Path.{_≡_, refl}
-use Prim.Native.Nat.{_-_, _≤_, _<_, _+_}
+use Prim.Native.Nat.{_-_, _≤_}
+use borrow.Author.Needs.{needs}
+use native.Mathlib.Omega.{arith}
 use Rattle.loops.specs.Loop.{ranged}
 use Rattle.loops.proofs.Loop.{ranged-again, ranged-done}
 use Rattle.solve.specs.Solve.{system, backTurn, backOf}
 use Rattle.solve.proofs.Laws.{row-solved}
-use borrow.Author.Needs.{needs}
-use native.Mathlib.Omega.{arith}
 use Rattle.solve.proofs.back3.Statement.{statement}
 use Rattle.solve.proofs.back3.Tie as tie
-use Rattle.solve.proofs.back3.Reads as reads
-use Rattle.solve.proofs.back3.Lts as lts
-use Rattle.solve.proofs.rest3.Reads as rest3-reads
 
 abbrev Inv-loop : tie.InvT-loop
 Inv-loop m b x₀ i₀ x i = (ranged (backTurn 3 (system m b)) i 3 x ≡ backOf 3 (system m b)) × (i ≤ 3)
@@ -18,71 +16,54 @@ Inv-loop m b x₀ i₀ x i = (ranged (backTurn 3 (system m b)) i 3 x ≡ backOf 
 abbrev μ-loop : tie.MeasureT-loop
 μ-loop m b x₀ i₀ x i = 3 - i
 
--- src/lib.rt:219:5
 loop-holds : tie.Need-loop-holds Inv-loop μ-loop
 loop-holds c = (refl, omega arith)
 
--- src/lib.rt:220:19
 sub-row : tie.Need-sub-row Inv-loop μ-loop
 sub-row c = search needs
 
--- src/lib.rt:221:25
 mul-rest3 : tie.Need-mul-rest3 Inv-loop μ-loop
 mul-rest3 c = search needs
 
--- src/lib.rt:221:25
 array-copy-out-rest3 : tie.Need-array-copy-out-rest3 Inv-loop μ-loop
 array-copy-out-rest3 c = search needs
 
--- src/lib.rt:221:36
 add-rest3 : tie.Need-add-rest3 Inv-loop μ-loop
 add-rest3 c = search needs
 
--- src/lib.rt:221:45
 mul-rest3-2 : tie.Need-mul-rest3-2 Inv-loop μ-loop
 mul-rest3-2 c = search needs
 
--- src/lib.rt:221:45
 array-read-rest3 : tie.Need-array-read-rest3 Inv-loop μ-loop
 array-read-rest3 c = search needs
 
--- src/lib.rt:221:13
 rest3-requires : tie.Need-rest3-requires Inv-loop μ-loop
 rest3-requires c κs = search needs
 
--- src/lib.rt:222:24
 mul-x : tie.Need-mul-x Inv-loop μ-loop
 mul-x c = search needs
 
--- src/lib.rt:222:24
 mul-x-2 : tie.Need-mul-x-2 Inv-loop μ-loop
 mul-x-2 c = search needs
 
--- src/lib.rt:222:24
 index-1-x : tie.Need-index-1-x Inv-loop μ-loop
 index-1-x c = search needs
 
--- src/lib.rt:222:24
 index-2-x : tie.Need-index-2-x Inv-loop μ-loop
 index-2-x c = search needs
 
--- src/lib.rt:222:9
 mul-x-3 : tie.Need-mul-x-3 Inv-loop μ-loop
 mul-x-3 c = search needs
 
--- src/lib.rt:222:9
 array-write-x : tie.Need-array-write-x Inv-loop μ-loop
 array-write-x c = search needs
 
--- src/lib.rt:219:9
 add-i : tie.Need-add-i Inv-loop μ-loop
 add-i c = search needs
 
--- src/lib.rt:219:5
 loop-less : tie.Need-loop-less Inv-loop μ-loop
 loop-less c = search needs
 
--- src/lib.rt:219:5
 loop-again : tie.Need-loop-again Inv-loop μ-loop
 loop-again c =
     let k = c .before in
@@ -91,7 +72,6 @@ loop-again c =
     let a = l .before .before .args in
     (ranged-again _ _ 3 (l .loop-test .taken) (row-solved 3 (2 - s .i) (a .t1) (a .t2) (s .x) (k .rest3 .ensures)) (s .inv .0), omega arith)
 
--- src/lib.rt:215:1
 returns : tie.Need-returns Inv-loop μ-loop
 returns c = ranged-done _ _ _ (c .loop-test .left) (c .before .loop .inv .0)
 

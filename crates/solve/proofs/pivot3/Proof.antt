@@ -1,16 +1,14 @@
+-- `solve::pivot3` meets its contract: each turn keeps the better row. Assumes nothing.
 use mathlib.Core.Path.{_≡_, refl}
-use Prim.Native.Nat.{_-_, _≤_, _<_, _+_}
+use Prim.Native.Nat.{_-_, _≤_, _<_}
+use borrow.Author.Needs.{needs}
+use native.Mathlib.Omega.{arith}
 use Rattle.loops.specs.Loop.{ranged}
 use Rattle.loops.proofs.Loop.{ranged-again, ranged-done}
 use Rattle.solve.specs.Solve.{better, pivotOf}
 use Rattle.solve.proofs.Laws.{better-below}
-use borrow.Author.Needs.{needs}
-use native.Mathlib.Omega.{arith}
 use Rattle.solve.proofs.pivot3.Statement.{statement}
 use Rattle.solve.proofs.pivot3.Tie as tie
-use Rattle.solve.proofs.pivot3.Reads as reads
-use Rattle.solve.proofs.pivot3.Lts as lts
-use Rattle.solve.proofs.greater.Reads as greater-reads
 
 abbrev Inv-loop : tie.InvT-loop
 Inv-loop col m pivot₀ row₀ pivot row = (ranged (better m col) row 3 pivot ≡ pivotOf 3 m col) × ((row ≤ 3) × (pivot < 3))
@@ -18,68 +16,54 @@ Inv-loop col m pivot₀ row₀ pivot row = (ranged (better m col) row 3 pivot �
 abbrev μ-loop : tie.MeasureT-loop
 μ-loop col m pivot₀ row₀ pivot row = 3 - row
 
--- src/lib.rt:171:16
 add-row : tie.Need-add-row Inv-loop μ-loop
 add-row c = search needs
 
--- src/lib.rt:171:5
 loop-holds : tie.Need-loop-holds Inv-loop μ-loop
 loop-holds c = (refl, omega arith)
 
--- src/lib.rt:172:25
 mul-greater : tie.Need-mul-greater Inv-loop μ-loop
 mul-greater c = search needs
 
--- src/lib.rt:172:25
 mul-greater-2 : tie.Need-mul-greater-2 Inv-loop μ-loop
 mul-greater-2 c = search needs
 
--- src/lib.rt:172:25
 index-1-greater : tie.Need-index-1-greater Inv-loop μ-loop
 index-1-greater c = search needs
 
--- src/lib.rt:172:25
 index-2-greater : tie.Need-index-2-greater Inv-loop μ-loop
 index-2-greater c = search needs
 
--- src/lib.rt:172:40
 mul-greater-3 : tie.Need-mul-greater-3 Inv-loop μ-loop
 mul-greater-3 c = search needs
 
--- src/lib.rt:172:40
 mul-greater-4 : tie.Need-mul-greater-4 Inv-loop μ-loop
 mul-greater-4 c = search needs
 
--- src/lib.rt:172:40
 index-1-greater-2 : tie.Need-index-1-greater-2 Inv-loop μ-loop
 index-1-greater-2 c = search needs
 
--- src/lib.rt:172:40
 index-2-greater-2 : tie.Need-index-2-greater-2 Inv-loop μ-loop
 index-2-greater-2 c = search needs
 
--- src/lib.rt:172:9
 greater-requires : tie.Need-greater-requires Inv-loop μ-loop
 greater-requires c κs = search needs
 
--- src/lib.rt:171:9
 add-row-2 : tie.Need-add-row-2 Inv-loop μ-loop
 add-row-2 c = search needs
 
--- src/lib.rt:171:5
 loop-less : tie.Need-loop-less Inv-loop μ-loop
 loop-less c = search needs
 
--- src/lib.rt:171:5
 loop-again : tie.Need-loop-again Inv-loop μ-loop
 loop-again c =
     let l = c .before .before .before in
     let a = l .before .before .args in
-    let s = l .before .loop in
-    ( ranged-again (better (a .t1) (a .col)) (s .row) 3 (l .loop-test .taken) (c .greater .ensures) (s .inv .0)
-    , (omega arith, better-below 3 (a .t1) (a .col) (s .row) (s .pivot) (c .greater .ensures) (l .loop-test .taken) (s .inv .1 .1)) )
+    let s = l .before .loop in (
+      ranged-again (better (a .t1) (a .col)) (s .row) 3 (l .loop-test .taken) (c .greater .ensures) (s .inv .0),
+      (omega arith, better-below 3 (a .t1) (a .col) (s .row) (s .pivot) (c .greater .ensures) (l .loop-test .taken) (s .inv .1 .1)),
+    )
 
--- src/lib.rt:166:1
 returns : tie.Need-returns Inv-loop μ-loop
 returns c =
     let a = c .before .before .args in

@@ -1,14 +1,13 @@
+-- `solve::rest` meets its contract: each turn takes a product off. Assumes nothing.
 use mathlib.Core.Path.{_≡_, refl}
-use Prim.Native.Nat.{_-_, _≤_, _<_, _+_}
+use Prim.Native.Nat.{_-_, _≤_}
+use borrow.Author.Needs.{needs}
+use native.Mathlib.Omega.{arith}
 use Rattle.loops.specs.Loop.{ranged}
 use Rattle.loops.proofs.Loop.{ranged-again, ranged-done}
 use Rattle.solve.specs.Solve.{lessProduct, restOf}
-use borrow.Author.Needs.{needs}
-use native.Mathlib.Omega.{arith}
 use Rattle.solve.proofs.rest.Statement.{statement}
 use Rattle.solve.proofs.rest.Tie as tie
-use Rattle.solve.proofs.rest.Reads as reads
-use Rattle.solve.proofs.rest.Lts as lts
 
 abbrev Inv-loop : tie.InvT-loop
 Inv-loop row x n from acc acc₀ k₀ acc' k = (ranged (lessProduct row x) k n acc' ≡ restOf n row x from acc) × (k ≤ n)
@@ -16,41 +15,32 @@ Inv-loop row x n from acc acc₀ k₀ acc' k = (ranged (lessProduct row x) k n a
 abbrev μ-loop : tie.MeasureT-loop
 μ-loop row x n from acc acc₀ k₀ acc' k = n - k
 
--- src/lib.rt:91:5
 loop-holds : tie.Need-loop-holds Inv-loop μ-loop
 loop-holds c = (refl, omega arith)
 
--- src/lib.rt:92:21
 mul-acc : tie.Need-mul-acc Inv-loop μ-loop
 mul-acc c = search needs
 
--- src/lib.rt:92:21
 shared-slice-read-acc : tie.Need-shared-slice-read-acc Inv-loop μ-loop
 shared-slice-read-acc c = search needs
 
--- src/lib.rt:92:30
 mul-acc-2 : tie.Need-mul-acc-2 Inv-loop μ-loop
 mul-acc-2 c = search needs
 
--- src/lib.rt:92:30
 shared-slice-read-acc-2 : tie.Need-shared-slice-read-acc-2 Inv-loop μ-loop
 shared-slice-read-acc-2 c = search needs
 
--- src/lib.rt:91:9
 add-k : tie.Need-add-k Inv-loop μ-loop
 add-k c = search needs
 
--- src/lib.rt:91:5
 loop-less : tie.Need-loop-less Inv-loop μ-loop
 loop-less c = search needs
 
--- src/lib.rt:91:5
 loop-again : tie.Need-loop-again Inv-loop μ-loop
 loop-again c =
     let l = c .before .before in
     (ranged-again _ _ _ (l .loop-test .taken) refl (l .before .loop .inv .0), omega arith)
 
--- src/lib.rt:86:1
 returns : tie.Need-returns Inv-loop μ-loop
 returns c = ranged-done _ _ _ (c .loop-test .left) (c .before .loop .inv .0)
 

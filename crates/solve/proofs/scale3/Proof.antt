@@ -1,16 +1,14 @@
+-- `solve::scale3` meets its contract: each turn adds a row's magnitudes. Assumes nothing.
 use mathlib.Core.Path.{_≡_, refl}
-use Prim.Native.Nat.{_-_, _≤_, _<_, _+_}
-use Rattle.loops.specs.Loop.{ranged}
-use Rattle.loops.proofs.Loop.{ranged-again, ranged-done}
-use Rattle.solve.specs.Solve.{addRow, scaleOf}
+use Prim.Native.Nat.{_-_, _≤_}
 use lib.Ieee.{ofBits, neg}
 use borrow.Author.Needs.{needs}
 use native.Mathlib.Omega.{arith}
+use Rattle.loops.specs.Loop.{ranged}
+use Rattle.loops.proofs.Loop.{ranged-again, ranged-done}
+use Rattle.solve.specs.Solve.{addRow, scaleOf}
 use Rattle.solve.proofs.scale3.Statement.{statement}
 use Rattle.solve.proofs.scale3.Tie as tie
-use Rattle.solve.proofs.scale3.Reads as reads
-use Rattle.solve.proofs.scale3.Lts as lts
-use Rattle.solve.proofs.magnitudes3.Reads as magnitudes3-reads
 
 abbrev Inv-loop : tie.InvT-loop
 Inv-loop m sum₀ i₀ sum i = (ranged (addRow 3 m) i 3 sum ≡ scaleOf 3 m) × (i ≤ 3)
@@ -18,38 +16,30 @@ Inv-loop m sum₀ i₀ sum i = (ranged (addRow 3 m) i 3 sum ≡ scaleOf 3 m) × 
 abbrev μ-loop : tie.MeasureT-loop
 μ-loop m sum₀ i₀ sum i = 3 - i
 
--- src/lib.rt:158:5
 loop-holds : tie.Need-loop-holds Inv-loop μ-loop
 unfolding ofBits neg
 loop-holds c = (refl, omega arith)
 
--- src/lib.rt:159:27
 mul-magnitudes3 : tie.Need-mul-magnitudes3 Inv-loop μ-loop
 mul-magnitudes3 c = search needs
 
--- src/lib.rt:159:27
 array-copy-out-magnitudes3 : tie.Need-array-copy-out-magnitudes3 Inv-loop μ-loop
 array-copy-out-magnitudes3 c = search needs
 
--- src/lib.rt:159:9
 magnitudes3-requires : tie.Need-magnitudes3-requires Inv-loop μ-loop
 magnitudes3-requires c κs = search needs
 
--- src/lib.rt:158:9
 add-i : tie.Need-add-i Inv-loop μ-loop
 add-i c = search needs
 
--- src/lib.rt:158:5
 loop-less : tie.Need-loop-less Inv-loop μ-loop
 loop-less c = search needs
 
--- src/lib.rt:158:5
 loop-again : tie.Need-loop-again Inv-loop μ-loop
 loop-again c =
     let l = c .before .before in
     (ranged-again _ _ 3 (l .loop-test .taken) (c .magnitudes3 .ensures) (l .before .loop .inv .0), omega arith)
 
--- src/lib.rt:154:1
 returns : tie.Need-returns Inv-loop μ-loop
 returns c = ranged-done _ _ _ (c .loop-test .left) (c .before .loop .inv .0)
 

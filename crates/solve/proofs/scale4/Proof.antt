@@ -1,16 +1,14 @@
+-- `solve::scale4` meets its contract: each turn adds a row's magnitudes. Assumes nothing.
 use mathlib.Core.Path.{_≡_, refl}
-use Prim.Native.Nat.{_-_, _≤_, _<_, _+_}
-use Rattle.loops.specs.Loop.{ranged}
-use Rattle.loops.proofs.Loop.{ranged-again, ranged-done}
-use Rattle.solve.specs.Solve.{addRow, scaleOf}
+use Prim.Native.Nat.{_-_, _≤_}
 use lib.Ieee.{ofBits, neg}
 use borrow.Author.Needs.{needs}
 use native.Mathlib.Omega.{arith}
+use Rattle.loops.specs.Loop.{ranged}
+use Rattle.loops.proofs.Loop.{ranged-again, ranged-done}
+use Rattle.solve.specs.Solve.{addRow, scaleOf}
 use Rattle.solve.proofs.scale4.Statement.{statement}
 use Rattle.solve.proofs.scale4.Tie as tie
-use Rattle.solve.proofs.scale4.Reads as reads
-use Rattle.solve.proofs.scale4.Lts as lts
-use Rattle.solve.proofs.magnitudes4.Reads as magnitudes4-reads
 
 abbrev Inv-loop : tie.InvT-loop
 Inv-loop m sum₀ i₀ sum i = (ranged (addRow 4 m) i 4 sum ≡ scaleOf 4 m) × (i ≤ 4)
@@ -18,38 +16,30 @@ Inv-loop m sum₀ i₀ sum i = (ranged (addRow 4 m) i 4 sum ≡ scaleOf 4 m) × 
 abbrev μ-loop : tie.MeasureT-loop
 μ-loop m sum₀ i₀ sum i = 4 - i
 
--- src/lib.rt:280:5
 loop-holds : tie.Need-loop-holds Inv-loop μ-loop
 unfolding ofBits neg
 loop-holds c = (refl, omega arith)
 
--- src/lib.rt:281:27
 mul-magnitudes4 : tie.Need-mul-magnitudes4 Inv-loop μ-loop
 mul-magnitudes4 c = search needs
 
--- src/lib.rt:281:27
 array-copy-out-magnitudes4 : tie.Need-array-copy-out-magnitudes4 Inv-loop μ-loop
 array-copy-out-magnitudes4 c = search needs
 
--- src/lib.rt:281:9
 magnitudes4-requires : tie.Need-magnitudes4-requires Inv-loop μ-loop
 magnitudes4-requires c κs = search needs
 
--- src/lib.rt:280:9
 add-i : tie.Need-add-i Inv-loop μ-loop
 add-i c = search needs
 
--- src/lib.rt:280:5
 loop-less : tie.Need-loop-less Inv-loop μ-loop
 loop-less c = search needs
 
--- src/lib.rt:280:5
 loop-again : tie.Need-loop-again Inv-loop μ-loop
 loop-again c =
     let l = c .before .before in
     (ranged-again _ _ 4 (l .loop-test .taken) (c .magnitudes4 .ensures) (l .before .loop .inv .0), omega arith)
 
--- src/lib.rt:276:1
 returns : tie.Need-returns Inv-loop μ-loop
 returns c = ranged-done _ _ _ (c .loop-test .left) (c .before .loop .inv .0)
 

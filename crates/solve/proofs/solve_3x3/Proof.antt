@@ -1,23 +1,13 @@
-use Rattle.solve.specs.Solve.{system, solving, solveOf, solve3Of, answer3, solution}
+-- `solve::solve_3x3` meets its contract: each turn is one column of the definition, which goes on or gives up. Assumes nothing.
 use mathlib.Core.Path.{_≡_, refl, ap, _∙_}
-use Prim.Native.Nat.{_-_, _≤_, _<_, _+_}
-use Rattle.loops.proofs.Loop.{searched-again, searched-leave, searched-done}
-use Rattle.solve.specs.Solve.{system, solving, solveOf, solve3Of, answer3, solution, thresholdOf, scaleOf}
-use Rattle.solve.proofs.Laws.{column-on, column-out}
+use Prim.Native.Nat.{_-_, _≤_}
 use borrow.Author.Needs.{needs}
 use native.Mathlib.Omega.{arith}
+use Rattle.loops.proofs.Loop.{searched-again, searched-leave, searched-done}
+use Rattle.solve.specs.Solve.{system, solving, solveOf, solve3Of, answer3, solution}
+use Rattle.solve.proofs.Laws.{column-on, column-out}
 use Rattle.solve.proofs.solve_3x3.Statement.{statement}
 use Rattle.solve.proofs.solve_3x3.Tie as tie
-use Rattle.solve.proofs.solve_3x3.Reads as reads
-use Rattle.solve.proofs.solve_3x3.Lts as lts
-use Rattle.number.proofs.abs.Reads as abs-reads
-use Rattle.solve.proofs.back3.Reads as back3-reads
-use Rattle.solve.proofs.eliminate3.Reads as eliminate3-reads
-use Rattle.solve.proofs.pivot3.Reads as pivot3-reads
-use Rattle.solve.proofs.scale3.Reads as scale3-reads
-use Rattle.solve.proofs.swap3.Reads as swap3-reads
-use Rattle.solve.proofs.swap_rows3.Reads as swap-rows3-reads
-use Rattle.solve.proofs.threshold.Reads as threshold-reads
 
 abbrev Inv-loop : tie.InvT-loop
 Inv-loop tol least m₀ b₀ col₀ m b col = (solving 3 least col (system m b) ≡ solving 3 least 0 (system m₀ b₀)) × (col ≤ 3)
@@ -32,51 +22,39 @@ least-is : (c : tie.After-threshold Inv-loop μ-loop)
 unfolding solveOf
 least-is c = rw (c .threshold .ensures, c .before .scale3 .ensures)
 
--- src/lib.rt:232:32
 scale3-requires : tie.Need-scale3-requires Inv-loop μ-loop
 scale3-requires c κs = search needs
 
--- src/lib.rt:232:9
 threshold-requires : tie.Need-threshold-requires Inv-loop μ-loop
 threshold-requires c κs = search needs
 
--- src/lib.rt:235:5
 loop-holds : tie.Need-loop-holds Inv-loop μ-loop
 loop-holds c = (refl, omega arith)
 
--- src/lib.rt:236:13
 pivot3-requires : tie.Need-pivot3-requires Inv-loop μ-loop
 pivot3-requires c κs = search needs
 
--- src/lib.rt:237:20
 swap-rows3-requires : tie.Need-swap-rows3-requires Inv-loop μ-loop
 swap-rows3-requires c κs = search needs
 
--- src/lib.rt:238:25
 swap3-requires : tie.Need-swap3-requires Inv-loop μ-loop
 swap3-requires c κs = search needs
 
--- src/lib.rt:239:24
 mul-abs : tie.Need-mul-abs Inv-loop μ-loop
 mul-abs c = search needs
 
--- src/lib.rt:239:24
 mul-abs-2 : tie.Need-mul-abs-2 Inv-loop μ-loop
 mul-abs-2 c = search needs
 
--- src/lib.rt:239:24
 index-1-abs : tie.Need-index-1-abs Inv-loop μ-loop
 index-1-abs c = search needs
 
--- src/lib.rt:239:24
 index-2-abs : tie.Need-index-2-abs Inv-loop μ-loop
 index-2-abs c = search needs
 
--- src/lib.rt:239:12
 abs-requires : tie.Need-abs-requires Inv-loop μ-loop
 abs-requires c κs = search needs
 
--- src/lib.rt:240:13
 returns : tie.Need-returns Inv-loop μ-loop
 unfolding solve3Of
 returns c =
@@ -86,19 +64,15 @@ returns c =
     let step = column-out 3 _ _ (l .loop .m) (l .loop .b) (p .pivot3 .ensures .0) (s .before .swap-rows3 .ensures) (s .swap3 .ensures) (c .before .abs .ensures) (c .if1 .taken) in
     ap answer3 (searched-leave _ _ _ 3 (p .before .loop-test .taken) step (l .loop .inv .0) ∙ least-is (l .before))
 
--- src/lib.rt:242:13
 eliminate3-requires : tie.Need-eliminate3-requires Inv-loop μ-loop
 eliminate3-requires c κs = search needs
 
--- src/lib.rt:235:9
 add-col : tie.Need-add-col Inv-loop μ-loop
 add-col c = search needs
 
--- src/lib.rt:235:5
 loop-less : tie.Need-loop-less Inv-loop μ-loop
 loop-less c = search needs
 
--- src/lib.rt:235:5
 loop-again : tie.Need-loop-again Inv-loop μ-loop
 loop-again c =
     let e = c .before .before in
@@ -108,23 +82,18 @@ loop-again c =
     let step = column-on 3 _ _ (l .loop .m) (l .loop .b) (p .pivot3 .ensures .0) (s .before .swap-rows3 .ensures) (s .swap3 .ensures) (e .before .abs .ensures) (e .if1 .left) (c .eliminate3 .ensures) in
     (searched-again _ _ _ 3 (p .before .loop-test .taken) step (l .loop .inv .0), omega arith)
 
--- src/lib.rt:246:13
 back3-requires : tie.Need-back3-requires Inv-loop μ-loop
 back3-requires c κs = search needs
 
--- src/lib.rt:248:13
 array-read-t13 : tie.Need-array-read-t13 Inv-loop μ-loop
 array-read-t13 c = search needs
 
--- src/lib.rt:249:13
 array-read-t31 : tie.Need-array-read-t31 Inv-loop μ-loop
 array-read-t31 c = search needs
 
--- src/lib.rt:250:13
 array-read-t34 : tie.Need-array-read-t34 Inv-loop μ-loop
 array-read-t34 c = search needs
 
--- src/lib.rt:229:1
 returns-2 : tie.Need-returns-2 Inv-loop μ-loop
 unfolding solve3Of
 returns-2 c =
