@@ -8,7 +8,7 @@ use lib.Ieee.{Float, nan}
 use Rattle.loops.specs.Loop.{pick, Flow, on, out}
 use Rattle.number.specs.Operators.{_⊖_, _⊗_, _⊘_, _<?_, _≤?_}
 use Rattle.number.specs.Helpers.{absOf}
-use Rattle.solve.specs.Solve.{System, system, cell, better, factorOf, lessOf, clearRow, restOf, backRow, pivotOf, swapOf, clearedOf, column, Answer, singular, determinantOf, scale2Of, thresholdOf, cramerOf, solve2Of}
+use Rattle.solve.specs.Solve.{System, system, cell, better, factorOf, lessOf, clearRow, restOf, backRow, pivotOf, swapOf, clearedOf, column, givesUp, Answer, singular, determinantOf, scale2Of, cramerOf, solve2Of}
 use Rattle.solve.specs.declared.Solved2.{Solved2}
 use Rattle.solve.specs.declared.Solved2.the-variants.{Solution, Singular}
 
@@ -32,36 +32,37 @@ pub row-solved : (n row : ℕ) (m : List (List Float)) (b x : List Float) {acc :
     → set x row (acc ⊘ cell m row row) ≡ backRow n (system m b) row x
 row-solved n row m b x e = rw e
 
+-- one turn of a solver's loop, from what its calls gave: the pivot's row, the rows and the right side swapped, and the test
 module _
     (n : ℕ)
-    (least : Float)
+    (tol scale : Float)
     (col : ℕ)
     (m : List (List Float))
     (b : List Float)
     {rows : List (List Float)}
     {right : List Float}
     {p : ℕ}
-    {v : Float}
+    {t : Bool}
     (ep : p ≡ pivotOf n m col)
     (er : rows ≡ swapOf [] m col p)
     (es : right ≡ swapOf nan b col p)
-    (ev : v ≡ absOf (cell rows col col))
+    (et : t ≡ givesUp (cell rows col col) tol scale)
   where
-    at-pivot : (t : Bool) → (v ≤? least) ≡ t → column n least col (system m b) ≡ pick t (out singular) (on (clearedOf n col (system rows right)))
-    at-pivot t h = rw (es, ← h, ev, er, ep)
+    at-pivot : {u : Bool} → t ≡ u → column n tol scale col (system m b) ≡ pick u (out singular) (on (clearedOf n col (system rows right)))
+    at-pivot h = rw (es, ← h, et, er, ep)
 
-    -- a column whose pivot exceeds the least: the loop goes on with the rows below it cleared
-    pub column-on : {next : List (List Float)} {side : List Float} → (v ≤? least) ≡ false → system next side ≡ clearedOf n col (system rows right)
-        → column n least col (system m b) ≡ on (system next side)
-    column-on h e = rw e (at-pivot false h)
+    -- the loop goes on with the rows below cleared
+    pub column-on : {next : List (List Float)} {side : List Float} → t ≡ false → system next side ≡ clearedOf n col (system rows right)
+        → column n tol scale col (system m b) ≡ on (system next side)
+    column-on h e = rw e (at-pivot h)
 
-    -- a column whose pivot doesn't: the loop is left
-    pub column-out : (v ≤? least) ≡ true → column n least col (system m b) ≡ out singular
-    column-out h = at-pivot true h
+    -- the loop is left
+    pub column-out : t ≡ true → column n tol scale col (system m b) ≡ out singular
+    column-out h = at-pivot h
 
 -- what `solve_2x2` answers by its test
-pub at-determinant : (a : List (List Float)) (b : List Float) (tol : Float) {det scale least v : Float} {t : Bool}
-    → det ≡ determinantOf a → scale ≡ scale2Of a → least ≡ thresholdOf tol scale → v ≡ absOf det → (v ≤? least) ≡ t
-    → pick t Singular (Solution (cramerOf a b det)) ≡ solve2Of a b tol
+pub at-determinant : (a : List (List Float)) (b : List Float) (tol : Float) {det scale : Float} {t u : Bool}
+    → det ≡ determinantOf a → scale ≡ scale2Of a → t ≡ givesUp det tol scale → t ≡ u
+    → pick u Singular (Solution (cramerOf a b det)) ≡ solve2Of a b tol
 unfolding solve2Of
-at-determinant a b tol ed es el ev et = rw (← et, ev, el, es, ed)
+at-determinant a b tol ed es et eu = rw (← eu, et, es, ed)

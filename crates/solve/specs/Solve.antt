@@ -21,9 +21,9 @@ use Rattle.solve.specs.declared.Solved4.the-variants as solved4
 abbrev pub cell : List (List Float) → ℕ → ℕ → Float
 cell m r c = getD (getD m r []) c nan
 
--- "tol times max(sum of magnitudes, smallest normal)"
-abbrev pub thresholdOf : Float → Float → Float
-thresholdOf tol scale = tol ⊗ maxOf scale (bits 0x0010_0000_0000_0000)
+-- "gives up when it is at most tol times max(sum of magnitudes, smallest normal)"; a NaN is not at most
+abbrev pub givesUp : Float → Float → Float → Bool
+givesUp pivot tol scale = absOf pivot ≤? tol ⊗ maxOf scale (bits 0x0010_0000_0000_0000)
 
 -- "the sum taken before elimination": `iter().flatten().map(abs).sum()`, which starts from -0
 abbrev pub addMagnitude : List Float → ℕ → Float → Float
@@ -106,18 +106,16 @@ pub data Answer : Type 0 where
   solution : List Float → Answer
   singular : Answer
 
--- "gives up when it is at most" the threshold: one column of `solve_square`
-abbrev pub column : ℕ → Float → ℕ → System → Flow System Answer
-column n least col s =
-    pick (absOf (cell (swappedOf n col s .rows) col col) ≤? least)
-    (out singular)
-    (on (clearedOf n col (swappedOf n col s)))
+-- one column of `solve_square`
+abbrev pub column : ℕ → Float → Float → ℕ → System → Flow System Answer
+column n tol scale col s =
+    pick (givesUp (cell (swappedOf n col s .rows) col col) tol scale) (out singular) (on (clearedOf n col (swappedOf n col s)))
 
-abbrev pub solving : ℕ → Float → ℕ → System → Answer
-solving n least col s = searched (column n least) (λ t. solution (backOf n t)) col n (on s)
+abbrev pub solving : ℕ → Float → Float → ℕ → System → Answer
+solving n tol scale col s = searched (column n tol scale) (λ t. solution (backOf n t)) col n (on s)
 
 unfoldable pub solveOf : ℕ → List (List Float) → List Float → Float → Answer
-solveOf n m b tol = solving n (thresholdOf tol (scaleOf n m)) 0 (system m b)
+solveOf n m b tol = solving n tol (scaleOf n m) 0 (system m b)
 
 -- the answers of each size: the solution's entries by name
 abbrev pub answer3 : Answer → Solved3
@@ -145,7 +143,7 @@ cramerOf a b det =
 
 unfoldable pub solve2Of : List (List Float) → List Float → Float → Solved2
 solve2Of a b tol =
-    pick (absOf (determinantOf a) ≤? thresholdOf tol (scale2Of a)) solved2.Singular (solved2.Solution (cramerOf a b (determinantOf a)))
+    pick (givesUp (determinantOf a) tol (scale2Of a)) solved2.Singular (solved2.Solution (cramerOf a b (determinantOf a)))
 
 -- `solve_3x3` and `solve_4x4`
 unfoldable pub solve3Of : List (List Float) → List Float → Float → Solved3

@@ -8,7 +8,7 @@ ghost use mathlib.Core.List.{[]};
 ghost use lib.Ieee.{nan};
 ghost use lib.ListN.{length};
 ghost use Prim.Native.Nat.{_+_, _<_, _≤_};
-ghost use Rattle.solve.specs.Solve.{thresholdOf, determinantOf, scale2Of, cramerOf, solve2Of, solve3Of, solve4Of, magnitudesOf, scaleOf, greaterOf, pivotOf, swapOf, lessOf, system, clearedOf, restOf, backOf};
+ghost use Rattle.solve.specs.Solve.{givesUp, determinantOf, scale2Of, cramerOf, solve2Of, solve3Of, solve4Of, magnitudesOf, scaleOf, greaterOf, pivotOf, swapOf, lessOf, system, clearedOf, restOf, backOf};
 
 pub struct Solution2 {
     pub x0: f64,
@@ -43,11 +43,11 @@ pub enum Solved4 {
     Singular,
 }
 
-// What a pivot or a determinant has to exceed.
-fn threshold(tol: f64, scale: f64) -> f64
-    ensures { λ r. ⌜ r ≡ thresholdOf tol scale ⌝ }
+// Whether a pivot, or a determinant, counts as zero: at most tol times the scale, which never is a NaN.
+fn gives_up(pivot: f64, tol: f64, scale: f64) -> bool
+    ensures { λ r. ⌜ r ≡ givesUp pivot tol scale ⌝ }
 {
-    tol * number::max(scale, number::MIN_POSITIVE)
+    number::abs(pivot) <= tol * number::max(scale, number::MIN_POSITIVE)
 }
 
 // The sum, to which the magnitudes of the row's first n entries are added in order.
@@ -123,7 +123,7 @@ pub fn solve_2x2(a: [[f64; 2]; 2], b: [f64; 2], tol: f64) -> Solved2
     ensures { λ r. ⌜ r ≡ solve2Of a b tol ⌝ }
 {
     let det = determinant(a);
-    if number::abs(det) <= threshold(tol, scale2(a)) {
+    if gives_up(det, tol, scale2(a)) {
         return Solved2::Singular;
     }
     Solved2::Solution(cramer(a, b, det))
@@ -228,14 +228,14 @@ fn back3(m: [[f64; 3]; 3], b: [f64; 3]) -> [f64; 3]
 pub fn solve_3x3(a: [[f64; 3]; 3], b: [f64; 3], tol: f64) -> Solved3
     ensures { λ r. ⌜ r ≡ solve3Of a b tol ⌝ }
 {
-    let least = threshold(tol, scale3(a));
+    let scale = scale3(a);
     let mut m = a;
     let mut b = b;
     for col in 0..3 {
         let pivot = pivot3(m, col);
         let rows = swap_rows3(m, col, pivot);
         let mut right = swap3(b, col, pivot);
-        if number::abs(rows[col][col]) <= least {
+        if gives_up(rows[col][col], tol, scale) {
             return Solved3::Singular;
         }
         let cleared = eliminate3(rows, &mut right, col);
@@ -345,14 +345,14 @@ fn back4(m: [[f64; 4]; 4], b: [f64; 4]) -> [f64; 4]
 pub fn solve_4x4(a: [[f64; 4]; 4], b: [f64; 4], tol: f64) -> Solved4
     ensures { λ r. ⌜ r ≡ solve4Of a b tol ⌝ }
 {
-    let least = threshold(tol, scale4(a));
+    let scale = scale4(a);
     let mut m = a;
     let mut b = b;
     for col in 0..4 {
         let pivot = pivot4(m, col);
         let rows = swap_rows4(m, col, pivot);
         let mut right = swap4(b, col, pivot);
-        if number::abs(rows[col][col]) <= least {
+        if gives_up(rows[col][col], tol, scale) {
             return Solved4::Singular;
         }
         let cleared = eliminate4(rows, &mut right, col);

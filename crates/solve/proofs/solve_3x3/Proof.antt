@@ -1,5 +1,5 @@
 -- `solve::solve_3x3` meets its contract: each turn is one column of the definition, which goes on or gives up. Assumes nothing.
-use mathlib.Core.Path.{_≡_, refl, ap, _∙_}
+use mathlib.Core.Path.{_≡_, ap, _∙_}
 use Prim.Native.Nat.{_-_, _≤_}
 use borrow.Author.Needs.{needs}
 use native.Mathlib.Omega.{arith}
@@ -10,26 +10,17 @@ use Rattle.solve.proofs.solve_3x3.Statement.{statement}
 use Rattle.solve.proofs.solve_3x3.Tie as tie
 
 abbrev Inv-loop : tie.InvT-loop
-Inv-loop tol least m₀ b₀ col₀ m b col = (solving 3 least col (system m b) ≡ solving 3 least 0 (system m₀ b₀)) × (col ≤ 3)
+Inv-loop tol scale m₀ b₀ col₀ m b col = (solving 3 tol scale col (system m b) ≡ solveOf 3 m₀ b₀ tol) × (col ≤ 3)
 
 abbrev μ-loop : tie.MeasureT-loop
-μ-loop tol least m₀ b₀ col₀ m b col = 3 - col
-
--- the least pivot is the definition's
-least-is : (c : tie.After-threshold Inv-loop μ-loop)
-    → solving 3 (c .threshold .result) 0 (system (c .before .before .args .a) (c .before .before .args .b))
-    ≡ solveOf 3 (c .before .before .args .a) (c .before .before .args .b) (c .before .before .args .tol)
-unfolding solveOf
-least-is c = rw (c .threshold .ensures, c .before .scale3 .ensures)
+μ-loop tol scale m₀ b₀ col₀ m b col = 3 - col
 
 scale3-requires : tie.Need-scale3-requires Inv-loop μ-loop
 scale3-requires c κs = search needs
 
-threshold-requires : tie.Need-threshold-requires Inv-loop μ-loop
-threshold-requires c κs = search needs
-
 loop-holds : tie.Need-loop-holds Inv-loop μ-loop
-loop-holds c = (refl, omega arith)
+unfolding solveOf
+loop-holds c = (rw (c .scale3 .ensures), omega arith)
 
 pivot3-requires : tie.Need-pivot3-requires Inv-loop μ-loop
 pivot3-requires c κs = search needs
@@ -40,29 +31,29 @@ swap-rows3-requires c κs = search needs
 swap3-requires : tie.Need-swap3-requires Inv-loop μ-loop
 swap3-requires c κs = search needs
 
-mul-abs : tie.Need-mul-abs Inv-loop μ-loop
-mul-abs c = search needs
+mul-gives-up : tie.Need-mul-gives-up Inv-loop μ-loop
+mul-gives-up c = search needs
 
-mul-abs-2 : tie.Need-mul-abs-2 Inv-loop μ-loop
-mul-abs-2 c = search needs
+mul-gives-up-2 : tie.Need-mul-gives-up-2 Inv-loop μ-loop
+mul-gives-up-2 c = search needs
 
-index-1-abs : tie.Need-index-1-abs Inv-loop μ-loop
-index-1-abs c = search needs
+index-1-gives-up : tie.Need-index-1-gives-up Inv-loop μ-loop
+index-1-gives-up c = search needs
 
-index-2-abs : tie.Need-index-2-abs Inv-loop μ-loop
-index-2-abs c = search needs
+index-2-gives-up : tie.Need-index-2-gives-up Inv-loop μ-loop
+index-2-gives-up c = search needs
 
-abs-requires : tie.Need-abs-requires Inv-loop μ-loop
-abs-requires c κs = search needs
+gives-up-requires : tie.Need-gives-up-requires Inv-loop μ-loop
+gives-up-requires c κs = search needs
 
 returns : tie.Need-returns Inv-loop μ-loop
 unfolding solve3Of
 returns c =
     let s = c .before .before .before in
     let p = s .before .before in
-    let l = p .before .before in
-    let step = column-out 3 _ _ (l .loop .m) (l .loop .b) (p .pivot3 .ensures .0) (s .before .swap-rows3 .ensures) (s .swap3 .ensures) (c .before .abs .ensures) (c .if1 .taken) in
-    ap answer3 (searched-leave _ _ _ 3 (p .before .loop-test .taken) step (l .loop .inv .0) ∙ least-is (l .before))
+    let l = p .before .before .loop in
+    let step = column-out 3 _ _ _ (l .m) (l .b) (p .pivot3 .ensures .0) (s .before .swap-rows3 .ensures) (s .swap3 .ensures) (c .before .gives-up .ensures) (c .if1 .taken) in
+    ap answer3 (searched-leave _ _ _ 3 (p .before .loop-test .taken) step (l .inv .0))
 
 eliminate3-requires : tie.Need-eliminate3-requires Inv-loop μ-loop
 eliminate3-requires c κs = search needs
@@ -78,15 +69,15 @@ loop-again c =
     let e = c .before .before in
     let s = e .before .before .before in
     let p = s .before .before in
-    let l = p .before .before in
-    let step = column-on 3 _ _ (l .loop .m) (l .loop .b) (p .pivot3 .ensures .0) (s .before .swap-rows3 .ensures) (s .swap3 .ensures) (e .before .abs .ensures) (e .if1 .left) (c .eliminate3 .ensures) in
-    (searched-again _ _ _ 3 (p .before .loop-test .taken) step (l .loop .inv .0), omega arith)
+    let l = p .before .before .loop in
+    let step = column-on 3 _ _ _ (l .m) (l .b) (p .pivot3 .ensures .0) (s .before .swap-rows3 .ensures) (s .swap3 .ensures) (e .before .gives-up .ensures) (e .if1 .left) (c .eliminate3 .ensures) in
+    (searched-again _ _ _ 3 (p .before .loop-test .taken) step (l .inv .0), omega arith)
 
 back3-requires : tie.Need-back3-requires Inv-loop μ-loop
 back3-requires c κs = search needs
 
-array-read-t13 : tie.Need-array-read-t13 Inv-loop μ-loop
-array-read-t13 c = search needs
+array-read-t28 : tie.Need-array-read-t28 Inv-loop μ-loop
+array-read-t28 c = search needs
 
 array-read-t31 : tie.Need-array-read-t31 Inv-loop μ-loop
 array-read-t31 c = search needs
@@ -96,9 +87,7 @@ array-read-t34 c = search needs
 
 returns-2 : tie.Need-returns-2 Inv-loop μ-loop
 unfolding solve3Of
-returns-2 c =
-    let l = c .before .before in
-    ap answer3 (ap solution (c .back3 .ensures) ∙ searched-done _ _ _ 3 (c .before .loop-test .left) (l .loop .inv .0) ∙ least-is (l .before))
+returns-2 c = ap answer3 (ap solution (c .back3 .ensures) ∙ searched-done _ _ _ 3 (c .before .loop-test .left) (c .before .before .loop .inv .0))
 
 pub solve-3x3-spec : {M : Type 1} → statement M
 solve-3x3-spec =
@@ -107,23 +96,22 @@ solve-3x3-spec =
     Inv-loop
     μ-loop
     scale3-requires
-    threshold-requires
     loop-holds
     pivot3-requires
     swap-rows3-requires
     swap3-requires
-    mul-abs
-    mul-abs-2
-    index-1-abs
-    index-2-abs
-    abs-requires
+    mul-gives-up
+    mul-gives-up-2
+    index-1-gives-up
+    index-2-gives-up
+    gives-up-requires
     returns
     eliminate3-requires
     add-col
     loop-less
     loop-again
     back3-requires
-    array-read-t13
+    array-read-t28
     array-read-t31
     array-read-t34
     returns-2)
