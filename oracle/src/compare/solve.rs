@@ -125,12 +125,13 @@ fn threshold(r: &mut Random, n: usize) -> Vec<f64> {
         m[i * n + i] = if r.one_in(2) { 1.0 } else { -1.0 };
     }
     // A determinant of one product as small as this is measured against the smallest normal number.
-    let at = 1e-12
-        * if n == 2 {
-            f64::MIN_POSITIVE
-        } else {
-            (n - 1) as f64
-        };
+    let ones = (n - 1) as f64;
+    let scale = if n == 2 {
+        f64::MIN_POSITIVE
+    } else {
+        ones + 1e-12 * ones
+    };
+    let at = 1e-12 * scale;
     m[n * n - 1] = f64::from_bits(at.to_bits() - 4 + r.below(9) as u64);
     if n == 2 && r.one_in(2) {
         // The determinant against 1e-12 times the sum of two products.
