@@ -43,7 +43,7 @@ pub enum Solved4 {
     Singular,
 }
 
-// Whether a pivot, or a determinant, counts as zero: at most tol times the scale, which never is a NaN.
+// Whether a pivot, or a determinant, is at most tol times the scale in magnitude. A NaN isn't; a NaN scale is as the smallest normal.
 fn gives_up(pivot: f64, tol: f64, scale: f64) -> bool
     ensures { λ r. ⌜ r ≡ givesUp pivot tol scale ⌝ }
 {
