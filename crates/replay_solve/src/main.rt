@@ -3,10 +3,7 @@
 //! A record is 27 words: the number of unknowns, the matrix row by row with the right side and tol (21 words at most,
 //! zeros behind), the answer's word, and the solution (4 words at most, zeros behind).
 
-const RECORD: usize = 216;
-
-// More than the list holds: its end is what ends the replay.
-const MOST: usize = 100000;
+use replay::Tally;
 
 // The numbers handed to the solver.
 fn input(record: &[u8]) -> [f64; 21] {
@@ -50,14 +47,22 @@ fn same(record: &[u8]) -> bool {
     recorded(record, output)
 }
 
+// The next record.
+fn one(tally: Tally) -> Tally {
+    let mut record = [0u8; 216];
+    if !replay::next(&mut record) {
+        return replay::ended(tally);
+    }
+    replay::counted(tally, same(&record))
+}
+
+// A proved loop has to end, so this one counts its turns down from a number that no list uses up.
 fn main() {
     let mut tally = replay::none();
-    let mut record = [0u8; RECORD];
-    for _ in 0..MOST {
-        if !replay::next(&mut record) {
-            break;
-        }
-        tally = replay::counted(tally, same(&record));
+    let mut turns = u64::MAX;
+    while turns > 0 && tally.more {
+        tally = one(tally);
+        turns -= 1;
     }
     replay::report(b"square solvers", tally);
 }

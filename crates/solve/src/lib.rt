@@ -129,6 +129,7 @@ pub fn solve_2x2(a: [[f64; 2]; 2], b: [f64; 2], tol: f64) -> Solved2
     Solved2::Solution(cramer(a, b, det))
 }
 
+// The functions on slices, at rows of three by value: their lengths come with their type.
 fn magnitudes3(row: [f64; 3], sum: f64) -> f64
     ensures { λ r. ⌜ r ≡ magnitudesOf 3 row sum ⌝ }
 {
