@@ -1,5 +1,5 @@
--- Every (P) row holds, by evaluation of the definitions. Assumes nothing.
-use mathlib.Core.Path.{_≡_, refl}
+-- The charted examples hold, each by evaluation of the definitions. Assumes nothing.
+use mathlib.Core.Path.{refl}
 use Rattle.examples.specs.Table.{Table}
 use Rattle.solve.proofs.Computing.{computing}
 

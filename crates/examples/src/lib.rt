@@ -1,1 +1,1 @@
-//! The charted examples of the scope that are marked (P): `specs/Table.antt` states them, `proofs/Table.antt` proves them together.
+//! The charted examples that are proved: one table of statements about the definitions, no code.

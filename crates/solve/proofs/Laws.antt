@@ -1,15 +1,14 @@
 -- What one turn of each loop computes, for any size n, and what the solvers' loop does in a column. Assumes nothing.
-use mathlib.Core.Path.{_≡_, refl, ap}
+use mathlib.Core.Path.{_≡_}
 use mathlib.Core.List.{List, []}
 use mathlib.Core.Bool.{Bool, true, false}
 use Prim.Native.Nat.{ℕ, _+_, _-_, _<_}
 use lib.ListN.{getD, set}
 use lib.Ieee.{Float, nan}
-use Rattle.loops.specs.Loop.{pick, Flow, on, out}
-use Rattle.number.specs.Operators.{_⊖_, _⊗_, _⊘_, _<?_, _≤?_}
+use Rattle.loops.specs.Loop.{pick, on, out}
+use Rattle.number.specs.Operators.{_⊖_, _⊗_, _⊘_, _<?_}
 use Rattle.number.specs.Helpers.{absOf}
-use Rattle.solve.specs.Solve.{System, system, cell, better, factorOf, lessOf, clearRow, restOf, backRow, pivotOf, swapOf, clearedOf, column, givesUp, Answer, singular, determinantOf, scale2Of, cramerOf, solve2Of}
-use Rattle.solve.specs.declared.Solved2.{Solved2}
+use Rattle.solve.specs.Solve.{system, cell, better, factorOf, lessOf, clearRow, restOf, backRow, pivotOf, swapOf, clearedOf, column, givesUp, singular, determinantOf, scale2Of, cramerOf, solve2Of}
 use Rattle.solve.specs.declared.Solved2.the-variants.{Solution, Singular}
 
 -- the better of two rows is a row

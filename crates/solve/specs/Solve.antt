@@ -1,6 +1,6 @@
 -- The square solvers (01, "The walk", "Solving"; the Rust's math/solve.rs), over lists of any size n. Definitions only.
-use mathlib.Core.List.{List, [], _∷_}
-use mathlib.Core.Bool.{Bool, true, false}
+use mathlib.Core.List.{List, []}
+use mathlib.Core.Bool.{Bool}
 use Prim.Native.Nat.{ℕ, _+_, _-_}
 use lib.ListN.{getD, set, replicate}
 use lib.Ieee.{Float, nan}
@@ -8,8 +8,6 @@ use Rattle.loops.specs.Loop.{pick, ranged, Flow, on, out, searched}
 use Rattle.number.specs.Operators.{_⊕_, _⊖_, _⊗_, _⊘_, _<?_, _≤?_, bits}
 use Rattle.number.specs.Helpers.{absOf, maxOf}
 use Rattle.solve.specs.declared.Solution2.{Solution2}
-use Rattle.solve.specs.declared.Solution3.{Solution3}
-use Rattle.solve.specs.declared.Solution4.{Solution4}
 use Rattle.solve.specs.declared.Solved2.{Solved2}
 use Rattle.solve.specs.declared.Solved3.{Solved3}
 use Rattle.solve.specs.declared.Solved4.{Solved4}

@@ -7,7 +7,7 @@ ghost use mathlib.Core.Path.{_≡_};
 ghost use mathlib.Core.List.{[]};
 ghost use lib.Ieee.{nan};
 ghost use lib.ListN.{length};
-ghost use Prim.Native.Nat.{_+_, _<_, _≤_};
+ghost use Prim.Native.Nat.{_<_, _≤_};
 ghost use Rattle.solve.specs.Solve.{givesUp, determinantOf, scale2Of, cramerOf, solve2Of, solve3Of, solve4Of, magnitudesOf, scaleOf, greaterOf, pivotOf, swapOf, lessOf, system, clearedOf, restOf, backOf};
 
 pub struct Solution2 {
