@@ -1,0 +1,110 @@
+//! Functions that only comparisons with outside programs call, exported to C. A slice passes as a pointer and a length.
+//!
+//! The input holds the matrix row by row, the right side and tol; a solution goes to the front of the output.
+//! The answer: 1 solved, 0 gave up, 2 a slice too short. Where it is not 1 the output is as it was.
+ghost use mathlib.Core.Path.{_≡_};
+ghost use Prim.Native.Nat.{_+_, _≤_};
+ghost use lib.ListN.{length};
+ghost use Rattle.probe.specs.Probe.{rowAt, probed, probe2Of, probe3Of, probe4Of};
+
+fn row2(input: &[f64], at: usize) -> [f64; 2]
+    requires { ⌜ at + 2 ≤ length (now input) ⌝ }
+    ensures { λ r. ⌜ r ≡ rowAt 2 at (now (input .entry)) ⌝ }
+{
+    [input[at], input[at + 1]]
+}
+
+#[no_mangle]
+pub extern "C" fn probe_solve_2x2(input: &[f64], output: &mut [f64]) -> u64
+    ensures { λ r. ⌜ probed r (now (output .exit)) ≡ probe2Of (now (input .entry)) (now (output .entry)) ⌝ }
+{
+    if input.len() < 7 {
+        return 2;
+    }
+    if output.len() < 2 {
+        return 2;
+    }
+    let r0 = row2(input, 0);
+    let r1 = row2(input, 2);
+    let b = row2(input, 4);
+    let a = [r0, r1];
+    let solved = solve::solve_2x2(a, b, input[6]);
+    match solved {
+        solve::Solved2::Solution(x) => {
+            output[0] = x.x0;
+            output[1] = x.x1;
+            1
+        }
+        solve::Solved2::Singular => 0,
+    }
+}
+
+fn row3(input: &[f64], at: usize) -> [f64; 3]
+    requires { ⌜ at + 3 ≤ length (now input) ⌝ }
+    ensures { λ r. ⌜ r ≡ rowAt 3 at (now (input .entry)) ⌝ }
+{
+    [input[at], input[at + 1], input[at + 2]]
+}
+
+#[no_mangle]
+pub extern "C" fn probe_solve_3x3(input: &[f64], output: &mut [f64]) -> u64
+    ensures { λ r. ⌜ probed r (now (output .exit)) ≡ probe3Of (now (input .entry)) (now (output .entry)) ⌝ }
+{
+    if input.len() < 13 {
+        return 2;
+    }
+    if output.len() < 3 {
+        return 2;
+    }
+    let r0 = row3(input, 0);
+    let r1 = row3(input, 3);
+    let r2 = row3(input, 6);
+    let b = row3(input, 9);
+    let a = [r0, r1, r2];
+    let solved = solve::solve_3x3(a, b, input[12]);
+    match solved {
+        solve::Solved3::Solution(x) => {
+            output[0] = x.x0;
+            output[1] = x.x1;
+            output[2] = x.x2;
+            1
+        }
+        solve::Solved3::Singular => 0,
+    }
+}
+
+fn row4(input: &[f64], at: usize) -> [f64; 4]
+    requires { ⌜ at + 4 ≤ length (now input) ⌝ }
+    ensures { λ r. ⌜ r ≡ rowAt 4 at (now (input .entry)) ⌝ }
+{
+    [input[at], input[at + 1], input[at + 2], input[at + 3]]
+}
+
+#[no_mangle]
+pub extern "C" fn probe_solve_4x4(input: &[f64], output: &mut [f64]) -> u64
+    ensures { λ r. ⌜ probed r (now (output .exit)) ≡ probe4Of (now (input .entry)) (now (output .entry)) ⌝ }
+{
+    if input.len() < 21 {
+        return 2;
+    }
+    if output.len() < 4 {
+        return 2;
+    }
+    let r0 = row4(input, 0);
+    let r1 = row4(input, 4);
+    let r2 = row4(input, 8);
+    let r3 = row4(input, 12);
+    let b = row4(input, 16);
+    let a = [r0, r1, r2, r3];
+    let solved = solve::solve_4x4(a, b, input[20]);
+    match solved {
+        solve::Solved4::Solution(x) => {
+            output[0] = x.x0;
+            output[1] = x.x1;
+            output[2] = x.x2;
+            output[3] = x.x3;
+            1
+        }
+        solve::Solved4::Singular => 0,
+    }
+}

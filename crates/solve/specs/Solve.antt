@@ -1,0 +1,171 @@
+-- The square solvers (01, "The walk", "Solving"; the Rust's math/solve.rs), over lists of any size n. Definitions only.
+use mathlib.Core.List.{List, []}
+use mathlib.Core.Bool.{Bool}
+use Prim.Native.Nat.{ℕ, _+_, _-_}
+use lib.ListN.{getD, set, replicate}
+use lib.Ieee.{Float, nan}
+use Rattle.loops.specs.Loop.{pick, ranged, Flow, on, out, searched}
+use Rattle.number.specs.Operators.{_⊕_, _⊖_, _⊗_, _⊘_, _<?_, _≤?_, bits}
+use Rattle.number.specs.Helpers.{absOf, maxOf}
+use Rattle.solve.specs.declared.Solution2.{Solution2}
+use Rattle.solve.specs.declared.Solved2.{Solved2}
+use Rattle.solve.specs.declared.Solved3.{Solved3}
+use Rattle.solve.specs.declared.Solved4.{Solved4}
+use Rattle.solve.specs.declared.Solved2.the-variants as solved2
+use Rattle.solve.specs.declared.Solved3.the-variants as solved3
+use Rattle.solve.specs.declared.Solved4.the-variants as solved4
+
+-- the entry in row r and column c
+abbrev pub cell : List (List Float) → ℕ → ℕ → Float
+cell m r c = getD (getD m r []) c nan
+
+-- one entry's magnitude added to the sum
+abbrev pub addMagnitude : List Float → ℕ → Float → Float
+addMagnitude row k sum = sum ⊕ absOf (getD row k nan)
+
+-- those of a row, from the first on
+abbrev pub magnitudesOf : ℕ → List Float → Float → Float
+magnitudesOf n row sum = ranged (addMagnitude row) 0 n sum
+
+-- those of row i
+abbrev pub addRow : ℕ → List (List Float) → ℕ → Float → Float
+addRow n m i sum = magnitudesOf n (getD m i []) sum
+
+-- the Rust's `scale`, "the sum taken before elimination": all entries row by row, from the -0 that `sum` starts from
+abbrev pub scaleOf : ℕ → List (List Float) → Float
+scaleOf n m = ranged (addRow n m) 0 n (bits 0x8000_0000_0000_0000)
+
+-- an entry displaces the one held where it is greater in magnitude: "a NaN neither displaces nor is displaced"
+abbrev pub greaterOf : Float → Float → ℕ → ℕ → ℕ
+greaterOf held entry pivot row = pick (absOf held <? absOf entry) row pivot
+
+-- the better of two rows in column col
+abbrev pub better : List (List Float) → ℕ → ℕ → ℕ → ℕ
+better m col row pivot = greaterOf (cell m pivot col) (cell m row col) pivot row
+
+-- "picks in each column the first entry of greatest magnitude", from row col down
+abbrev pub pivotOf : ℕ → List (List Float) → ℕ → ℕ
+pivotOf n m col = ranged (better m col) (col + 1) n col
+
+-- `swap`, of a matrix's rows and of the right side; d is never read
+abbrev pub swapOf : {A : Type 0} → A → List A → ℕ → ℕ → List A
+swapOf d l i j = set (set l i (getD l j d)) j (getD l i d)
+
+-- `*cell -= factor * pivot_row[k]`
+abbrev pub lessAt : List Float → Float → ℕ → List Float → List Float
+lessAt pivot factor k row = set row k (getD row k nan ⊖ factor ⊗ getD pivot k nan)
+
+-- a row less factor times the pivot's row, from column col on
+abbrev pub lessOf : ℕ → List Float → List Float → Float → ℕ → List Float
+lessOf n row pivot factor col = ranged (lessAt pivot factor) col n row
+
+-- a matrix, and the right side beside it
+pub record System : Type 0 where
+  pub rows : List (List Float)
+  pub right : List Float
+
+-- the two as one
+abbrev pub system : List (List Float) → List Float → System
+system m b = record { rows = m; right = b }
+
+-- `factor = m[row][col] / m[col][col]`
+abbrev pub factorOf : List (List Float) → ℕ → ℕ → Float
+factorOf m col row = cell m row col ⊘ cell m col col
+
+-- a row below col, and its right side, less factor times those of the pivot
+abbrev pub clearRow : ℕ → ℕ → ℕ → System → System
+clearRow n col row s =
+    system
+    (set (s .rows) row (lessOf n (getD (s .rows) row []) (getD (s .rows) col []) (factorOf (s .rows) col row) col))
+    (set (s .right) row (getD (s .right) row nan ⊖ factorOf (s .rows) col row ⊗ getD (s .right) col nan))
+
+-- all rows below col, one after the other
+abbrev pub clearedOf : ℕ → ℕ → System → System
+clearedOf n col s = ranged (clearRow n col) (col + 1) n s
+
+-- the pivot of column col in its place
+abbrev pub swappedOf : ℕ → ℕ → System → System
+swappedOf n col s = system (swapOf [] (s .rows) col (pivotOf n (s .rows) col)) (swapOf nan (s .right) col (pivotOf n (s .rows) col))
+
+-- "gives up when it is at most tol times max(sum of magnitudes, smallest normal)"; a NaN is not at most
+abbrev pub givesUp : Float → Float → Float → Bool
+givesUp pivot tol scale = absOf pivot ≤? tol ⊗ maxOf scale (bits 0x0010_0000_0000_0000)
+
+-- `acc -= m[row][k] * x[k]`
+abbrev pub lessProduct : List Float → List Float → ℕ → Float → Float
+lessProduct row x k acc = acc ⊖ getD row k nan ⊗ getD x k nan
+
+-- `acc` after the columns from `from` on
+abbrev pub restOf : ℕ → List Float → List Float → ℕ → Float → Float
+restOf n row x from acc = ranged (lessProduct row x) from n acc
+
+-- `x[row] = acc / m[row][row]`, with `acc` from `b[row]` and the entries of x behind row
+abbrev pub backRow : ℕ → System → ℕ → List Float → List Float
+backRow n s row x =
+    set x row (restOf n (getD (s .rows) row []) x (row + 1) (getD (s .right) row nan) ⊘ cell (s .rows) row row)
+
+-- turn i of `for row in (0..N).rev()`
+abbrev pub backTurn : ℕ → System → ℕ → List Float → List Float
+backTurn n s i x = backRow n s (n - 1 - i) x
+
+-- back substitution, from `[0.0; N]`
+abbrev pub backOf : ℕ → System → List Float
+backOf n s = ranged (backTurn n s) 0 n (replicate n (bits 0))
+
+-- the answer of `solve_square`: the solution, or that a column had no pivot (`None`)
+pub data Answer : Type 0 where
+  solution : List Float → Answer
+  singular : Answer
+
+-- one column of `solve_square`: the only place where it gives up
+abbrev pub column : ℕ → Float → Float → ℕ → System → Flow System Answer
+column n tol scale col s =
+    pick (givesUp (cell (swappedOf n col s .rows) col col) tol scale) (out singular) (on (clearedOf n col (swappedOf n col s)))
+
+-- the columns from col on, then back substitution
+abbrev pub solving : ℕ → Float → Float → ℕ → System → Answer
+solving n tol scale col s = searched (column n tol scale) (λ t. solution (backOf n t)) col n (on s)
+
+-- `solve_square`
+unfoldable pub solveOf : ℕ → List (List Float) → List Float → Float → Answer
+solveOf n m b tol = solving n tol (scaleOf n m) 0 (system m b)
+
+-- what the answer of a size says, the solution's entries by name
+abbrev pub answer3 : Answer → Solved3
+answer3 (solution x) = solved3.Solution (record { x0 = getD x 0 nan; x1 = getD x 1 nan; x2 = getD x 2 nan })
+answer3 singular = solved3.Singular
+
+-- the same for four
+abbrev pub answer4 : Answer → Solved4
+answer4 (solution x) =
+    solved4.Solution (record { x0 = getD x 0 nan; x1 = getD x 1 nan; x2 = getD x 2 nan; x3 = getD x 3 nan })
+answer4 singular = solved4.Singular
+
+-- the Rust's `det`
+abbrev pub determinantOf : List (List Float) → Float
+determinantOf a = cell a 0 0 ⊗ cell a 1 1 ⊖ cell a 0 1 ⊗ cell a 1 0
+
+-- the Rust's `scale` in `solve_2x2`
+abbrev pub scale2Of : List (List Float) → Float
+scale2Of a = absOf (cell a 0 0) ⊗ absOf (cell a 1 1) ⊕ absOf (cell a 0 1) ⊗ absOf (cell a 1 0)
+
+-- the solution by Cramer's rule
+abbrev pub cramerOf : List (List Float) → List Float → Float → Solution2
+cramerOf a b det =
+    record {
+      x0 = (getD b 0 nan ⊗ cell a 1 1 ⊖ getD b 1 nan ⊗ cell a 0 1) ⊘ det;
+      x1 = (cell a 0 0 ⊗ getD b 1 nan ⊖ cell a 1 0 ⊗ getD b 0 nan) ⊘ det;
+    }
+
+-- `solve_2x2`: "has its own test", of the determinant
+unfoldable pub solve2Of : List (List Float) → List Float → Float → Solved2
+solve2Of a b tol =
+    pick (givesUp (determinantOf a) tol (scale2Of a)) solved2.Singular (solved2.Solution (cramerOf a b (determinantOf a)))
+
+-- `solve_3x3`
+unfoldable pub solve3Of : List (List Float) → List Float → Float → Solved3
+solve3Of m b tol = answer3 (solveOf 3 m b tol)
+
+-- `solve_4x4`
+unfoldable pub solve4Of : List (List Float) → List Float → Float → Solved4
+solve4Of m b tol = answer4 (solveOf 4 m b tol)

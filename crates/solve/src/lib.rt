@@ -1,0 +1,370 @@
+//! Small linear systems of 2, 3 and 4 unknowns: the square solvers of the Rust's `math/solve.rs`.
+//!
+//! Each solver answers for every input, NaNs and infinities too, and its answer is the one that `specs/Solve.antt` computes.
+//! Rattle has no const generics: what works on one row or on the right side takes a slice and serves both sizes, and what
+//! works on a whole matrix stands once for 3 and once for 4, over one definition and one set of laws.
+ghost use mathlib.Core.Path.{_≡_};
+ghost use mathlib.Core.List.{[]};
+ghost use lib.Ieee.{nan};
+ghost use lib.ListN.{length};
+ghost use Prim.Native.Nat.{_<_, _≤_};
+ghost use Rattle.solve.specs.Solve.{givesUp, determinantOf, scale2Of, cramerOf, solve2Of, solve3Of, solve4Of, magnitudesOf, scaleOf, greaterOf, pivotOf, swapOf, lessOf, system, clearedOf, restOf, backOf};
+
+pub struct Solution2 {
+    pub x0: f64,
+    pub x1: f64,
+}
+
+pub struct Solution3 {
+    pub x0: f64,
+    pub x1: f64,
+    pub x2: f64,
+}
+
+pub struct Solution4 {
+    pub x0: f64,
+    pub x1: f64,
+    pub x2: f64,
+    pub x3: f64,
+}
+
+pub enum Solved2 {
+    Solution(Solution2),
+    Singular,
+}
+
+pub enum Solved3 {
+    Solution(Solution3),
+    Singular,
+}
+
+pub enum Solved4 {
+    Solution(Solution4),
+    Singular,
+}
+
+// Whether a pivot, or a determinant, is at most tol times the scale in magnitude. A NaN isn't; a NaN scale is as the smallest normal.
+fn gives_up(pivot: f64, tol: f64, scale: f64) -> bool
+    ensures { λ r. ⌜ r ≡ givesUp pivot tol scale ⌝ }
+{
+    number::abs(pivot) <= tol * number::max(scale, number::MIN_POSITIVE)
+}
+
+// The sum, to which the magnitudes of the row's first n entries are added in order.
+fn magnitudes(row: &[f64], n: usize, sum: f64) -> f64
+    requires { ⌜ n ≤ length (now row) ⌝ }
+    ensures { λ r. ⌜ r ≡ magnitudesOf n (now (row .entry)) sum ⌝ }
+{
+    let mut sum = sum;
+    for k in 0..n {
+        sum = sum + number::abs(row[k]);
+    }
+    sum
+}
+
+// The row, where its entry is greater in magnitude than the one held so far; else the pivot so far. A NaN is never greater.
+fn greater(held: f64, entry: f64, pivot: usize, row: usize) -> usize
+    ensures { λ r. ⌜ r ≡ greaterOf held entry pivot row ⌝ }
+{
+    if number::abs(held) < number::abs(entry) {
+        row
+    } else {
+        pivot
+    }
+}
+
+// The row less factor times the pivot's row, from column col on.
+fn clear(row: &mut [f64], pivot: &[f64], n: usize, factor: f64, col: usize)
+    requires { ⌜ (n ≤ length (now row)) × ((n ≤ length (now pivot)) × (col ≤ n)) ⌝ }
+    ensures { λ _. ⌜ now (row .exit) ≡ lessOf n (now (row .entry)) (now (pivot .entry)) factor col ⌝ }
+{
+    for k in col..n {
+        row[k] = row[k] - factor * pivot[k];
+    }
+}
+
+// acc less the products of the row's entries and the solution's, from column `from` on.
+fn rest(row: &[f64], x: &[f64], n: usize, from: usize, acc: f64) -> f64
+    requires { ⌜ (n ≤ length (now row)) × ((n ≤ length (now x)) × (from ≤ n)) ⌝ }
+    ensures { λ r. ⌜ r ≡ restOf n (now (row .entry)) (now (x .entry)) from acc ⌝ }
+{
+    let mut acc = acc;
+    for k in from..n {
+        acc = acc - row[k] * x[k];
+    }
+    acc
+}
+
+fn determinant(a: [[f64; 2]; 2]) -> f64
+    ensures { λ r. ⌜ r ≡ determinantOf a ⌝ }
+{
+    a[0][0] * a[1][1] - a[0][1] * a[1][0]
+}
+
+// What the determinant is measured against: its two products, of magnitudes and added.
+fn scale2(a: [[f64; 2]; 2]) -> f64
+    ensures { λ r. ⌜ r ≡ scale2Of a ⌝ }
+{
+    number::abs(a[0][0]) * number::abs(a[1][1]) + number::abs(a[0][1]) * number::abs(a[1][0])
+}
+
+// Cramer's rule, with the determinant at hand.
+fn cramer(a: [[f64; 2]; 2], b: [f64; 2], det: f64) -> Solution2
+    ensures { λ r. ⌜ r ≡ cramerOf a b det ⌝ }
+{
+    Solution2 {
+        x0: (b[0] * a[1][1] - b[1] * a[0][1]) / det,
+        x1: (a[0][0] * b[1] - a[1][0] * b[0]) / det,
+    }
+}
+
+// The 2 by 2 system a x = b, or Singular where the determinant is at most tol times its scale.
+pub fn solve_2x2(a: [[f64; 2]; 2], b: [f64; 2], tol: f64) -> Solved2
+    ensures { λ r. ⌜ r ≡ solve2Of a b tol ⌝ }
+{
+    let det = determinant(a);
+    if gives_up(det, tol, scale2(a)) {
+        return Solved2::Singular;
+    }
+    Solved2::Solution(cramer(a, b, det))
+}
+
+// The functions on slices, at rows of three by value: their lengths come with their type.
+fn magnitudes3(row: [f64; 3], sum: f64) -> f64
+    ensures { λ r. ⌜ r ≡ magnitudesOf 3 row sum ⌝ }
+{
+    magnitudes(&row, 3, sum)
+}
+
+fn clear3(row: [f64; 3], pivot: [f64; 3], factor: f64, col: usize) -> [f64; 3]
+    requires { ⌜ col < 3 ⌝ }
+    ensures { λ r. ⌜ r ≡ lessOf 3 row pivot factor col ⌝ }
+{
+    let mut row = row;
+    clear(&mut row, &pivot, 3, factor, col);
+    row
+}
+
+fn rest3(row: [f64; 3], x: [f64; 3], from: usize, acc: f64) -> f64
+    requires { ⌜ from ≤ 3 ⌝ }
+    ensures { λ r. ⌜ r ≡ restOf 3 row x from acc ⌝ }
+{
+    rest(&row, &x, 3, from, acc)
+}
+
+// The sum of the magnitudes, row by row, from the zero that the Rust's `sum` starts from.
+fn scale3(m: [[f64; 3]; 3]) -> f64
+    ensures { λ r. ⌜ r ≡ scaleOf 3 m ⌝ }
+{
+    let mut sum = -0.0;
+    for i in 0..3 {
+        sum = magnitudes3(m[i], sum);
+    }
+    sum
+}
+
+// The row, from col down, of the first entry of greatest magnitude in column col.
+fn pivot3(m: [[f64; 3]; 3], col: usize) -> usize
+    requires { ⌜ col < 3 ⌝ }
+    ensures { λ r. ⌜ (r ≡ pivotOf 3 m col) × (r < 3) ⌝ }
+{
+    let mut pivot = col;
+    for row in col + 1..3 {
+        pivot = greater(m[pivot][col], m[row][col], pivot, row);
+    }
+    pivot
+}
+
+fn swap_rows3(m: [[f64; 3]; 3], i: usize, j: usize) -> [[f64; 3]; 3]
+    requires { ⌜ (i < 3) × (j < 3) ⌝ }
+    ensures { λ r. ⌜ r ≡ swapOf [] m i j ⌝ }
+{
+    let mut m = m;
+    let row = m[i];
+    m[i] = m[j];
+    m[j] = row;
+    m
+}
+
+fn swap3(b: [f64; 3], i: usize, j: usize) -> [f64; 3]
+    requires { ⌜ (i < 3) × (j < 3) ⌝ }
+    ensures { λ r. ⌜ r ≡ swapOf nan b i j ⌝ }
+{
+    let mut b = b;
+    let x = b[i];
+    b[i] = b[j];
+    b[j] = x;
+    b
+}
+
+// The matrix with the rows below col cleared in column col; the right side follows in place.
+fn eliminate3(m: [[f64; 3]; 3], b: &mut [f64; 3], col: usize) -> [[f64; 3]; 3]
+    requires { ⌜ col < 3 ⌝ }
+    ensures { λ r. ⌜ system r (now (b .exit)) ≡ clearedOf 3 col (system m (now (b .entry))) ⌝ }
+{
+    let mut m = m;
+    for row in col + 1..3 {
+        let factor = m[row][col] / m[col][col];
+        let cleared = clear3(m[row], m[col], factor, col);
+        m[row] = cleared;
+        b[row] = b[row] - factor * b[col];
+    }
+    m
+}
+
+// Back substitution, from the last row up.
+fn back3(m: [[f64; 3]; 3], b: [f64; 3]) -> [f64; 3]
+    ensures { λ r. ⌜ r ≡ backOf 3 (system m b) ⌝ }
+{
+    let mut x = [0.0; 3];
+    for i in 0..3 {
+        let row = 2 - i;
+        let acc = rest3(m[row], x, row + 1, b[row]);
+        x[row] = acc / m[row][row];
+    }
+    x
+}
+
+// The 3 by 3 system by Gaussian elimination with partial pivoting, or Singular where a pivot is at most tol times the scale.
+pub fn solve_3x3(a: [[f64; 3]; 3], b: [f64; 3], tol: f64) -> Solved3
+    ensures { λ r. ⌜ r ≡ solve3Of a b tol ⌝ }
+{
+    let scale = scale3(a);
+    let mut m = a;
+    let mut b = b;
+    for col in 0..3 {
+        let pivot = pivot3(m, col);
+        let rows = swap_rows3(m, col, pivot);
+        let mut right = swap3(b, col, pivot);
+        if gives_up(rows[col][col], tol, scale) {
+            return Solved3::Singular;
+        }
+        let cleared = eliminate3(rows, &mut right, col);
+        m = cleared;
+        b = right;
+    }
+    let x = back3(m, b);
+    Solved3::Solution(Solution3 {
+        x0: x[0],
+        x1: x[1],
+        x2: x[2],
+    })
+}
+
+// The same for four unknowns.
+fn magnitudes4(row: [f64; 4], sum: f64) -> f64
+    ensures { λ r. ⌜ r ≡ magnitudesOf 4 row sum ⌝ }
+{
+    magnitudes(&row, 4, sum)
+}
+
+fn clear4(row: [f64; 4], pivot: [f64; 4], factor: f64, col: usize) -> [f64; 4]
+    requires { ⌜ col < 4 ⌝ }
+    ensures { λ r. ⌜ r ≡ lessOf 4 row pivot factor col ⌝ }
+{
+    let mut row = row;
+    clear(&mut row, &pivot, 4, factor, col);
+    row
+}
+
+fn rest4(row: [f64; 4], x: [f64; 4], from: usize, acc: f64) -> f64
+    requires { ⌜ from ≤ 4 ⌝ }
+    ensures { λ r. ⌜ r ≡ restOf 4 row x from acc ⌝ }
+{
+    rest(&row, &x, 4, from, acc)
+}
+
+fn scale4(m: [[f64; 4]; 4]) -> f64
+    ensures { λ r. ⌜ r ≡ scaleOf 4 m ⌝ }
+{
+    let mut sum = -0.0;
+    for i in 0..4 {
+        sum = magnitudes4(m[i], sum);
+    }
+    sum
+}
+
+fn pivot4(m: [[f64; 4]; 4], col: usize) -> usize
+    requires { ⌜ col < 4 ⌝ }
+    ensures { λ r. ⌜ (r ≡ pivotOf 4 m col) × (r < 4) ⌝ }
+{
+    let mut pivot = col;
+    for row in col + 1..4 {
+        pivot = greater(m[pivot][col], m[row][col], pivot, row);
+    }
+    pivot
+}
+
+fn swap_rows4(m: [[f64; 4]; 4], i: usize, j: usize) -> [[f64; 4]; 4]
+    requires { ⌜ (i < 4) × (j < 4) ⌝ }
+    ensures { λ r. ⌜ r ≡ swapOf [] m i j ⌝ }
+{
+    let mut m = m;
+    let row = m[i];
+    m[i] = m[j];
+    m[j] = row;
+    m
+}
+
+fn swap4(b: [f64; 4], i: usize, j: usize) -> [f64; 4]
+    requires { ⌜ (i < 4) × (j < 4) ⌝ }
+    ensures { λ r. ⌜ r ≡ swapOf nan b i j ⌝ }
+{
+    let mut b = b;
+    let x = b[i];
+    b[i] = b[j];
+    b[j] = x;
+    b
+}
+
+fn eliminate4(m: [[f64; 4]; 4], b: &mut [f64; 4], col: usize) -> [[f64; 4]; 4]
+    requires { ⌜ col < 4 ⌝ }
+    ensures { λ r. ⌜ system r (now (b .exit)) ≡ clearedOf 4 col (system m (now (b .entry))) ⌝ }
+{
+    let mut m = m;
+    for row in col + 1..4 {
+        let factor = m[row][col] / m[col][col];
+        let cleared = clear4(m[row], m[col], factor, col);
+        m[row] = cleared;
+        b[row] = b[row] - factor * b[col];
+    }
+    m
+}
+
+fn back4(m: [[f64; 4]; 4], b: [f64; 4]) -> [f64; 4]
+    ensures { λ r. ⌜ r ≡ backOf 4 (system m b) ⌝ }
+{
+    let mut x = [0.0; 4];
+    for i in 0..4 {
+        let row = 3 - i;
+        let acc = rest4(m[row], x, row + 1, b[row]);
+        x[row] = acc / m[row][row];
+    }
+    x
+}
+
+pub fn solve_4x4(a: [[f64; 4]; 4], b: [f64; 4], tol: f64) -> Solved4
+    ensures { λ r. ⌜ r ≡ solve4Of a b tol ⌝ }
+{
+    let scale = scale4(a);
+    let mut m = a;
+    let mut b = b;
+    for col in 0..4 {
+        let pivot = pivot4(m, col);
+        let rows = swap_rows4(m, col, pivot);
+        let mut right = swap4(b, col, pivot);
+        if gives_up(rows[col][col], tol, scale) {
+            return Solved4::Singular;
+        }
+        let cleared = eliminate4(rows, &mut right, col);
+        m = cleared;
+        b = right;
+    }
+    let x = back4(m, b);
+    Solved4::Solution(Solution4 {
+        x0: x[0],
+        x1: x[1],
+        x2: x[2],
+        x3: x[3],
+    })
+}

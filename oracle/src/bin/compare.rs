@@ -1,0 +1,31 @@
+//! `compare solve SEED COUNT` runs a comparison; `compare record-solve SEED COUNT` writes a fixed list to standard output.
+//! Ends with 1 where anything differs, and with 2 on bad usage.
+
+use oracle::compare::solve;
+use std::env;
+use std::process::ExitCode;
+
+fn usage() -> ExitCode {
+    eprintln!("usage: compare solve|record-solve SEED COUNT");
+    ExitCode::from(2)
+}
+
+fn main() -> ExitCode {
+    let args: Vec<String> = env::args().skip(1).collect();
+    let [what, seed, count] = args.as_slice() else {
+        return usage();
+    };
+    let (Ok(seed), Ok(count)) = (seed.parse::<u64>(), count.parse::<u64>()) else {
+        return usage();
+    };
+    let fine = match what.as_str() {
+        "solve" => solve::compare(seed, count) == 0,
+        "record-solve" => solve::record(seed, count).is_ok(),
+        _ => return usage(),
+    };
+    if fine {
+        ExitCode::SUCCESS
+    } else {
+        ExitCode::from(1)
+    }
+}

@@ -1,0 +1,345 @@
+//! The square solvers: generated systems, the oracle's answers, the comparison and the fixed list.
+
+use super::word;
+use crate::math::solve::{solve_2x2, solve_3x3, solve_4x4};
+use crate::probe;
+use crate::random::Random;
+use std::io::{self, Write};
+
+/// Words of a record of the fixed list: the size, the input (21 at most), the answer word, the solution (4 at most).
+const RECORD: usize = 1 + 21 + 1 + 4;
+
+/// Numbers that branch or overflow somewhere in a solver.
+const SPECIAL: [f64; 22] = [
+    0.0,
+    -0.0,
+    1.0,
+    -1.0,
+    0.5,
+    3.0,
+    1e-12,
+    4e-12,
+    -1e-12,
+    f64::MIN_POSITIVE,
+    -f64::MIN_POSITIVE,
+    5e-324,
+    -5e-324,
+    1e-300,
+    1e300,
+    f64::MAX,
+    f64::MIN,
+    f64::INFINITY,
+    f64::NEG_INFINITY,
+    f64::NAN,
+    f64::EPSILON,
+    1.0 + f64::EPSILON,
+];
+
+/// Other tolerances than 1e-12: both zeros, powers of two that small whole numbers meet exactly, and hostile ones.
+const TOLERANCES: [f64; 14] = [
+    0.0,
+    -0.0,
+    0.5,
+    0.25,
+    0.125,
+    0.0625,
+    0.03125,
+    1.0,
+    1e-3,
+    1e-300,
+    -1.0,
+    f64::INFINITY,
+    f64::NEG_INFINITY,
+    f64::NAN,
+];
+
+/// The kinds of system, by name.
+const KINDS: [&str; 15] = [
+    "uniform",
+    "wide range",
+    "any bits",
+    "small whole numbers",
+    "equal rows",
+    "multiple of a row",
+    "combined rows",
+    "combined rows, disturbed",
+    "permutation",
+    "special numbers",
+    "equal magnitudes",
+    "last pivot at the threshold",
+    "huge",
+    "subnormal",
+    "one entry not finite",
+];
+
+/// The matrix row by row, the right side, tol.
+struct System {
+    n: usize,
+    kind: usize,
+    input: Vec<f64>,
+}
+
+fn small(r: &mut Random) -> f64 {
+    let k = r.below(7) as f64 - 3.0;
+    if k == 0.0 && r.one_in(2) { -0.0 } else { k }
+}
+
+/// One entry of a kind that makes its entries alone.
+fn entry(r: &mut Random, kind: usize) -> f64 {
+    match kind {
+        1 => r.scaled(-60, 60),
+        2 => f64::from_bits(r.bits()),
+        3 => small(r),
+        9 => r.pick(&SPECIAL),
+        12 => r.scaled(1000, 1023),
+        13 => f64::from_bits(r.bits() & 0x801f_ffff_ffff_ffff),
+        _ => r.signed_unit(),
+    }
+}
+
+/// Writes a row as a sum of multiples of the other rows, disturbed in its last bits where asked.
+fn combine(r: &mut Random, m: &mut [f64], n: usize, others: usize, disturbed: bool) {
+    let target = r.below(n);
+    let mut row = vec![0.0; n];
+    for step in 1..=others {
+        let from = (target + step) % n;
+        let factor = if r.one_in(3) { 1.0 } else { r.scaled(-20, 20) };
+        for k in 0..n {
+            row[k] += factor * m[from * n + k];
+        }
+    }
+    for k in 0..n {
+        let d = if disturbed {
+            1.0 + r.scaled(-52, -30)
+        } else {
+            1.0
+        };
+        m[target * n + k] = row[k] * d;
+    }
+}
+
+/// A diagonal of ones whose last entry lies within a few last places of 1e-12 times the sum, its rows shuffled.
+fn threshold(r: &mut Random, n: usize) -> Vec<f64> {
+    let mut m = vec![0.0; n * n];
+    for i in 0..n - 1 {
+        m[i * n + i] = if r.one_in(2) { 1.0 } else { -1.0 };
+    }
+    // A determinant of one product as small as this is measured against the smallest normal number.
+    let ones = (n - 1) as f64;
+    let scale = if n == 2 {
+        f64::MIN_POSITIVE
+    } else {
+        ones + 1e-12 * ones
+    };
+    let at = 1e-12 * scale;
+    m[n * n - 1] = f64::from_bits(at.to_bits() - 4 + r.below(9) as u64);
+    if n == 2 && r.one_in(2) {
+        // The determinant against 1e-12 times the sum of two products.
+        m[1] = 1.0;
+        m[2] = 1.0;
+        m[3] = 1.0 + (r.below(9) as f64 - 4.0) * 1e-12;
+    }
+    if n > 2 && r.one_in(2) {
+        let (i, j) = (r.below(n), r.below(n));
+        for k in 0..n {
+            m.swap(i * n + k, j * n + k);
+        }
+    }
+    m
+}
+
+fn permutation(r: &mut Random, n: usize) -> Vec<f64> {
+    let mut to: Vec<usize> = (0..n).collect();
+    for i in (1..n).rev() {
+        to.swap(i, r.below(i + 1));
+    }
+    let mut m = vec![if r.one_in(2) { 0.0 } else { -0.0 }; n * n];
+    let scale = if r.one_in(2) {
+        1.0
+    } else {
+        r.scaled(-300, 300)
+    };
+    for (i, &j) in to.iter().enumerate() {
+        m[i * n + j] = if r.one_in(2) { scale } else { -scale };
+    }
+    m
+}
+
+fn matrix(r: &mut Random, n: usize, kind: usize) -> Vec<f64> {
+    match kind {
+        8 => return permutation(r, n),
+        11 => return threshold(r, n),
+        _ => {}
+    }
+    let mut m: Vec<f64> = (0..n * n).map(|_| entry(r, kind)).collect();
+    match kind {
+        4 => {
+            let (i, j) = (r.below(n), r.below(n));
+            for k in 0..n {
+                m[i * n + k] = m[j * n + k];
+            }
+        }
+        5 => combine(r, &mut m, n, 1, false),
+        6 => combine(r, &mut m, n, n - 1, false),
+        7 => combine(r, &mut m, n, n - 1, true),
+        10 => {
+            let size = if r.one_in(4) {
+                f64::NAN
+            } else {
+                r.scaled(-3, 3)
+            };
+            m.fill_with(|| if r.one_in(2) { size } else { -size });
+            if r.one_in(2) {
+                let at = r.below(n * n);
+                m[at] = small(r);
+            }
+        }
+        14 => {
+            let at = r.below(n * n);
+            m[at] = r.pick(&[f64::NAN, f64::INFINITY, f64::NEG_INFINITY]);
+        }
+        _ => {}
+    }
+    m
+}
+
+fn system(r: &mut Random, n: usize) -> System {
+    let kind = r.below(KINDS.len());
+    let mut input = matrix(r, n, kind);
+    for _ in 0..n {
+        let b = if r.one_in(8) {
+            r.pick(&SPECIAL)
+        } else {
+            entry(r, kind)
+        };
+        input.push(b);
+    }
+    let others = if kind == 3 { 2 } else { 8 };
+    input.push(if r.one_in(others) {
+        r.pick(&TOLERANCES)
+    } else {
+        1e-12
+    });
+    System { n, kind, input }
+}
+
+fn rows<const N: usize>(input: &[f64]) -> ([[f64; N]; N], [f64; N], f64) {
+    let m = std::array::from_fn(|i| std::array::from_fn(|j| input[i * N + j]));
+    let b = std::array::from_fn(|i| input[N * N + i]);
+    (m, b, input[N * N + N])
+}
+
+/// The oracle's answer.
+fn answer(n: usize, input: &[f64]) -> Option<Vec<f64>> {
+    match n {
+        2 => {
+            let (m, b, tol) = rows::<2>(input);
+            solve_2x2(m, b, tol).map(|x| x.to_vec())
+        }
+        3 => {
+            let (m, b, tol) = rows::<3>(input);
+            solve_3x3(m, b, tol).map(|x| x.to_vec())
+        }
+        _ => {
+            let (m, b, tol) = rows::<4>(input);
+            solve_4x4(m, b, tol).map(|x| x.to_vec())
+        }
+    }
+}
+
+/// What is in the output before the call, so that a word not written shows.
+const UNTOUCHED: f64 = 12345.5;
+
+/// Whether the proved code gives this answer, in bits, and leaves the rest of the output alone.
+fn agrees(s: &System, expected: &Option<Vec<f64>>) -> bool {
+    let mut output = [UNTOUCHED; 6];
+    let said = probe::solve(s.n, &s.input, &mut output);
+    let mut right = [UNTOUCHED; 6];
+    if let Some(x) = expected {
+        right[..s.n].copy_from_slice(x);
+    }
+    let same = output.iter().zip(&right).all(|(a, b)| word(*a) == word(*b));
+    same && said == u64::from(expected.is_some())
+}
+
+/// Slices too short are answered 2, and nothing is written.
+fn short_slices() -> u64 {
+    let mut differ = 0;
+    for n in 2..=4 {
+        let input = vec![1.0; n * n + n];
+        let mut output = [UNTOUCHED; 4];
+        let enough = vec![1.0; n * n + n + 1];
+        let short_in = probe::solve(n, &input, &mut output);
+        let short_out = probe::solve(n, &enough, &mut output[..n - 1]);
+        let touched = output.iter().any(|x| *x != UNTOUCHED);
+        differ += u64::from(short_in != 2 || short_out != 2 || touched);
+    }
+    differ
+}
+
+/// Compares `count` systems of each size. Returns how many differ.
+pub fn compare(seed: u64, count: u64) -> u64 {
+    let mut differ = short_slices();
+    for n in 2..=4 {
+        let mut r = Random::new(seed.wrapping_mul(4).wrapping_add(n as u64));
+        let mut solved = [0u64; KINDS.len()];
+        let mut gave_up = [0u64; KINDS.len()];
+        let mut not_finite = 0u64;
+        let mut wrong = 0;
+        for _ in 0..count {
+            let s = system(&mut r, n);
+            let expected = answer(n, &s.input);
+            match &expected {
+                Some(x) => {
+                    solved[s.kind] += 1;
+                    not_finite += u64::from(x.iter().any(|v| !v.is_finite()));
+                }
+                None => gave_up[s.kind] += 1,
+            }
+            if !agrees(&s, &expected) {
+                wrong += 1;
+                if wrong <= 3 {
+                    println!(
+                        "differs: {n} unknowns, {}: {:?} expected {expected:?}",
+                        KINDS[s.kind], s.input
+                    );
+                }
+            }
+        }
+        let total: u64 = solved.iter().sum();
+        println!(
+            "solve, {n} unknowns: {count} compared, {wrong} differ ({total} solved, {not_finite} of them not finite)"
+        );
+        for (k, kind) in KINDS.iter().enumerate() {
+            println!("  {kind}: {} solved, {} gave up", solved[k], gave_up[k]);
+        }
+        differ += wrong;
+    }
+    differ
+}
+
+/// Writes the fixed list: `count` systems of each size with the oracle's answers, as big-endian words.
+pub fn record(seed: u64, count: u64) -> io::Result<()> {
+    let mut out = io::stdout().lock();
+    for n in 2..=4 {
+        let mut r = Random::new(seed.wrapping_mul(4).wrapping_add(n as u64));
+        for _ in 0..count {
+            let s = system(&mut r, n);
+            let mut words = [0u64; RECORD];
+            words[0] = n as u64;
+            for (k, x) in s.input.iter().enumerate() {
+                words[1 + k] = word(*x);
+            }
+            if let Some(x) = answer(n, &s.input) {
+                words[22] = 1;
+                for (k, v) in x.iter().enumerate() {
+                    words[23 + k] = word(*v);
+                }
+            }
+            for w in words {
+                out.write_all(&w.to_be_bytes())?;
+            }
+        }
+    }
+    Ok(())
+}

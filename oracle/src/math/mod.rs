@@ -1,0 +1,4 @@
+//! What the walk uses of the Rust's `math`. The rest of each file is kept, so that it stays the Rust's own.
+
+#[allow(dead_code)]
+pub(crate) mod solve;

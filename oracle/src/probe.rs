@@ -1,0 +1,26 @@
+//! The proved code, through the crate `probe`. A Rattle slice passes to C as a pointer and a length.
+
+unsafe extern "C" {
+    fn probe_solve_2x2(input: *const f64, inputs: usize, output: *mut f64, outputs: usize) -> u64;
+    fn probe_solve_3x3(input: *const f64, inputs: usize, output: *mut f64, outputs: usize) -> u64;
+    fn probe_solve_4x4(input: *const f64, inputs: usize, output: *mut f64, outputs: usize) -> u64;
+}
+
+/// The answer word for a system of `n` unknowns: the matrix row by row, the right side, tol.
+pub(crate) fn solve(n: usize, input: &[f64], output: &mut [f64]) -> u64 {
+    let call = match n {
+        2 => probe_solve_2x2,
+        3 => probe_solve_3x3,
+        4 => probe_solve_4x4,
+        _ => panic!("no solver for {n} unknowns"),
+    };
+    // SAFETY: each pointer comes with the length of the slice it was taken from, and the callee keeps neither.
+    unsafe {
+        call(
+            input.as_ptr(),
+            input.len(),
+            output.as_mut_ptr(),
+            output.len(),
+        )
+    }
+}
