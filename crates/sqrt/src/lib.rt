@@ -80,9 +80,12 @@ fn candidate(m: u64, odd: u64) -> Halves
     let cut = near + 201326591.99999997;
     let s = cut - 201326591.99999997;
     let rest = (v - s * s) / (s + near) + 1.5000000298023224;
+    if rest != rest {
+        return Halves { high: 0, low: 0 };
+    }
     Halves {
-        high: number::to_bits(cut) & 0x7ff_ffff,
-        low: number::to_bits(rest) & 0xfff_ffff,
+        high: f64::to_bits(cut) & 0x7ff_ffff,
+        low: f64::to_bits(rest) & 0xfff_ffff,
     }
 }
 

@@ -1,18 +1,28 @@
--- `sqrt::candidate` meets its contract: its two patterns are no NaN's, and masks bound the pieces. Of the floats nothing is used. Assumes nothing.
+-- `sqrt::candidate` meets its contract: its two patterns are no NaN's, and masks bound the pieces. Of the floats it is used only that a NaN stays one. Assumes nothing.
 use mathlib.Core.Path.{_≡_, sym, subst}
 use Prim.Native.Nat.{ℕ, _+_, _*_, _^_, _≤_}
 use native.Mathlib.Omega.{arith}
-use mathlib.Core.Bool.{Bool, not}
+use mathlib.Core.Bool.{Bool, true, false, not, true≢false}
 use lib.Dec.{T}
 use lib.Bits.{mask-lt}
-use lib.Ieee.{binary64, nanBits}
+use lib.Ieee.{Float, nan, inf, fin, binary64, add, sub, mul, div, neg, ne, isNan, nanBits, toBits}
 use borrow.Author.Needs.{needs}
+use Rattle.number.proofs.Sign.{no-nan}
 use Rattle.sqrt.proofs.Pattern.{no-nan-bits}
 use Rattle.sqrt.proofs.candidate.Statement.{statement}
 use Rattle.sqrt.proofs.candidate.Tie as tie
 
 number : (b : ℕ) → b ≤ 2047 * 2 ^ 52 → T (not (nanBits binary64 b))
 number b h = subst (λ (t : Bool). T (not t)) (sym (no-nan-bits b h)) tt
+
+-- what is left of a root cut to a NaN is a NaN
+stays : (cut k v near l : Float) → T (not (isNan (add binary64 (div binary64 (sub binary64 v (mul binary64 (sub binary64 cut k) (sub binary64 cut k))) (add binary64 (sub binary64 cut k) near)) l))) → T (not (isNan cut))
+unfolding isNan add sub mul div neg
+stays nan k nan near l h = h
+stays nan k (inf s) near l h = h
+stays nan k (fin s m e) near l h = h
+stays (inf s) k v near l h = tt
+stays (fin s m e) k v near l h = tt
 
 add-f : tie.Need-add-f
 add-f c = search needs
@@ -35,14 +45,17 @@ float-from-bits-v c = number _ (omega arith)
 cubic-for-requires : tie.Need-cubic-for-requires
 cubic-for-requires c κs = tt
 
-to-bits-requires : tie.Need-to-bits-requires
-to-bits-requires c κs = tt
-
-to-bits-requires-2 : tie.Need-to-bits-requires-2
-to-bits-requires-2 c κs = tt
-
 returns : tie.Need-returns
-returns c = record { high-lt = mask-lt (c .before .to-bits .result) 27; low-lt = mask-lt (c .to-bits2 .result) 28 }
+returns c = search needs
+
+float-to-bits-t14 : tie.Need-float-to-bits-t14
+float-to-bits-t14 c = stays _ _ _ _ _ (no-nan _ (c .if2 .left))
+
+float-to-bits-t12 : tie.Need-float-to-bits-t12
+float-to-bits-t12 c = no-nan _ (c .if2 .left)
+
+returns-2 : tie.Need-returns-2
+returns-2 c = record { high-lt = mask-lt (toBits binary64 _) 27; low-lt = mask-lt (toBits binary64 _) 28 }
 
 pub candidate-spec : {M : Type 1} → statement M
-candidate-spec = tie.close (tie.spec add-f float-from-bits-f add-v mul-v add-v-2 float-from-bits-v cubic-for-requires to-bits-requires to-bits-requires-2 returns)
+candidate-spec = tie.close (tie.spec add-f float-from-bits-f add-v mul-v add-v-2 float-from-bits-v cubic-for-requires returns float-to-bits-t14 float-to-bits-t12 returns-2)
