@@ -5,7 +5,9 @@
 //! `a * 2 ^ 52`, where `a` is `m` or `2 * m`. A candidate for them comes from a few floating-point steps. Nothing is proved of it:
 //! whole numbers test exactly that it is the nearest one, and where the test fails the digits are found one by one.
 ghost use mathlib.Core.Path.{_≡_};
-ghost use mathlib.Core.Bool.{true};
+ghost use mathlib.Core.Bool.{true, not};
+ghost use lib.Dec.{T};
+ghost use lib.Ieee.{isNan};
 ghost use Prim.Native.Nat.{_+_, _*_, _^_, _≤_, _<_};
 ghost use Rattle.number.specs.Units.{unit};
 ghost use Rattle.sqrt.specs.Sqrt.{roundRoot, sqrtOf};
@@ -14,10 +16,10 @@ ghost use Rattle.sqrt.specs.Nearest.{Nearest, Pieces, IsDigit};
 // The coefficients of c0 + c1 * f - c2 * f ^ 2 + c3 * f ^ 3.
 struct Cubic(f64, f64, f64, f64);
 
-// A candidate for the digits of a root, high * 2 ^ 27 + low.
+// A candidate for the digits of a root, high * 2 ^ 27 + low: high is in the last 27 bits of the one number, low in the last 28 of the other.
 struct Halves {
-    high: u64,
-    low: u64,
+    cut: f64,
+    rest: f64,
 }
 
 // A root's whole part, and what the number has more than its square.
@@ -69,7 +71,7 @@ fn cubic_for(i: u64) -> Cubic {
 // exact, and the rest of the root is (v - s * s) / (s + root). Adding a number of a greater magnitude puts the wanted digits last.
 fn candidate(m: u64, odd: u64) -> Halves
     requires { ⌜ (4503599627370496 ≤ m) × (m < 9007199254740992) × (odd < 2) ⌝ }
-    ensures { λ r. ⌜ Pieces (r .high) (r .low) ⌝ }
+    ensures { λ r. ⌜ (T (not (isNan (r .rest))) → T (not (isNan (r .cut)))) ⌝ }
 {
     let one = 0x3fe0_0000_0000_0000;
     let f = f64::from_bits(one + m);
@@ -80,13 +82,7 @@ fn candidate(m: u64, odd: u64) -> Halves
     let cut = near + 201326591.99999997;
     let s = cut - 201326591.99999997;
     let rest = (v - s * s) / (s + near) + 1.5000000298023224;
-    if rest != rest {
-        return Halves { high: 0, low: 0 };
-    }
-    Halves {
-        high: f64::to_bits(cut) & 0x7ff_ffff,
-        low: f64::to_bits(rest) & 0xfff_ffff,
-    }
+    Halves { cut, rest }
 }
 
 // Whether high * 2 ^ 27 + low is nearest to the root of a * 2 ^ 52, as far as the difference in units of 2 ^ 27 can tell.
@@ -145,11 +141,16 @@ fn nearest(m: u64, odd: u64) -> u64
 {
     let a = m << odd;
     let c = candidate(m, odd);
-    if is_nearest(a, c.high, c.low) {
-        c.high * 134217728 + c.low
-    } else {
-        by_digits(a)
+    let cut = c.cut;
+    let rest = c.rest;
+    if rest == rest {
+        let high = f64::to_bits(cut) & 0x7ff_ffff;
+        let low = f64::to_bits(rest) & 0xfff_ffff;
+        if is_nearest(a, high, low) {
+            return high * 134217728 + low;
+        }
     }
+    by_digits(a)
 }
 
 // The number nearest to the root of m * 2 ^ (g + 52), in units.

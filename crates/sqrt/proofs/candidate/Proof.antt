@@ -1,13 +1,11 @@
--- `sqrt::candidate` meets its contract: its two patterns are no NaN's, and masks bound the pieces. Of the floats it is used only that a NaN stays one. Assumes nothing.
+-- `sqrt::candidate` meets its contract: its two patterns are no NaN's, and a NaN stays one. Assumes nothing.
 use mathlib.Core.Path.{_≡_, sym, subst}
 use Prim.Native.Nat.{ℕ, _+_, _*_, _^_, _≤_}
 use native.Mathlib.Omega.{arith}
-use mathlib.Core.Bool.{Bool, true, false, not, true≢false}
+use mathlib.Core.Bool.{Bool, not}
 use lib.Dec.{T}
-use lib.Bits.{mask-lt}
-use lib.Ieee.{Float, nan, inf, fin, binary64, add, sub, mul, div, neg, ne, isNan, nanBits, toBits}
+use lib.Ieee.{Float, nan, inf, fin, binary64, add, sub, mul, div, neg, isNan, nanBits}
 use borrow.Author.Needs.{needs}
-use Rattle.number.proofs.Sign.{no-nan}
 use Rattle.sqrt.proofs.Pattern.{no-nan-bits}
 use Rattle.sqrt.proofs.candidate.Statement.{statement}
 use Rattle.sqrt.proofs.candidate.Tie as tie
@@ -46,16 +44,7 @@ cubic-for-requires : tie.Need-cubic-for-requires
 cubic-for-requires c κs = tt
 
 returns : tie.Need-returns
-returns c = search needs
-
-float-to-bits-t14 : tie.Need-float-to-bits-t14
-float-to-bits-t14 c = stays _ _ _ _ _ (no-nan _ (c .if2 .left))
-
-float-to-bits-t12 : tie.Need-float-to-bits-t12
-float-to-bits-t12 c = no-nan _ (c .if2 .left)
-
-returns-2 : tie.Need-returns-2
-returns-2 c = record { high-lt = mask-lt (toBits binary64 _) 27; low-lt = mask-lt (toBits binary64 _) 28 }
+returns c h = stays _ _ _ _ _ h
 
 pub candidate-spec : {M : Type 1} → statement M
-candidate-spec = tie.close (tie.spec add-f float-from-bits-f add-v mul-v add-v-2 float-from-bits-v cubic-for-requires returns float-to-bits-t14 float-to-bits-t12 returns-2)
+candidate-spec = tie.close (tie.spec add-f float-from-bits-f add-v mul-v add-v-2 float-from-bits-v cubic-for-requires returns)
