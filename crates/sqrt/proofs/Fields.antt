@@ -1,18 +1,19 @@
 -- `sqrtOf` of a number, by the three fields of its bit pattern. Assumes nothing.
 use mathlib.Core.Path.{_≡_, refl, sym, ap, _∙_, subst}
 use mathlib.Core.Logic.{_⊎_, inl, inr}
-use Prim.Native.Nat.{ℕ, zero, suc, _+_, _-_, _*_, _^_, _≤_, _<_}
-use native.Mathlib.Nat.{lt-irrefl, zero-mul, mul-pos, mul-one, add-comm, mul-assoc, eq-or-lt-of-le}
+use Prim.Native.Nat.{ℕ, zero, suc, _+_, _*_, _^_, _≤_, _<_}
+use native.Mathlib.Nat.{lt-irrefl, zero-mul, mul-pos, mul-one, eq-or-lt-of-le}
 use native.Mathlib.Omega.{arith}
 use mathlib.Core.Bool.{Bool, true, false, cond, true≢false, false≢true}
 use lib.Dec.{T, eqb, eqb→eq}
-use lib.Pow.{pow-add, pow-pos}
+use lib.Pow.{pow-pos}
 use lib.Ieee.{Float, nan, inf, fin, binary64, up, down, odd, ofFields}
 use lib.Ieee.Fits.{down-pos}
 use lib.Ieee.Exact.{odd-sign}
 use Rattle.number.specs.Units.{unit, mag}
 use Rattle.number.proofs.Values.{Is, is-own}
 use Rattle.sqrt.specs.Sqrt.{sqrtOf, roundRoot}
+use Rattle.sqrt.specs.Nearest.{unitsOf}
 
 abbrev pub at : Bool → ℕ → ℕ → Float
 at s e t = ofFields binary64 s e t
@@ -42,10 +43,6 @@ pub zero-field : (s : Bool) → sqrtOf (at s 0 0) ≡ at s 0 0
 unfolding sqrtOf ofFields
 zero-field s = refl
 
-pub subnormal : (t : ℕ) → 0 < t → sqrtOf (at false 0 t) ≡ roundRoot (t * unit)
-unfolding ofFields
-subnormal t h = sqrt-value (at false 0 t) (t * 2 ^ 0) (mul-pos h (pow-pos 0)) (odd-sign 53 false t 0 1074) ∙ ap (λ (k : ℕ). roundRoot (k * unit)) (mul-one t)
-
 off : (x : ℕ) → suc x ≡ 2047 → suc x < 2047 → ⊥
 off x e k = omega arith
 
@@ -60,15 +57,19 @@ mid-value s x t k = go (eqb (suc x) 2047) (eqb→eq (suc x) 2047)
 mid-pos : (x t : ℕ) → 0 < (2 ^ 52 + t) * 2 ^ x
 mid-pos x t = mul-pos (omega arith) (pow-pos x)
 
-pub normal : (x t : ℕ) → 0 < x → x < 2047 → sqrtOf (at false x t) ≡ roundRoot ((t + 2 ^ 52) * 2 ^ (x + 1021 + 52))
-normal zero t h k = absurd (omega arith)
-normal (suc x) t h k = sqrt-value (at false (suc x) t) ((2 ^ 52 + t) * 2 ^ x) (mid-pos x t) (mid-value false x t k) ∙ ap roundRoot moved
-  where
-    sum : (x : ℕ) → x + 1074 ≡ suc x + 1021 + 52
-    sum x = omega arith
+units-pos : (x t : ℕ) → 0 < x + t → 0 < unitsOf x t
+unfolding unitsOf
+units-pos zero t h = omega arith
+units-pos (suc x) t h = mid-pos x t
 
-    moved : (2 ^ 52 + t) * 2 ^ x * unit ≡ (t + 2 ^ 52) * 2 ^ (suc x + 1021 + 52)
-    moved = mul-assoc (2 ^ 52 + t) (2 ^ x) (2 ^ 1074) ∙ ap (λ (y : ℕ). (2 ^ 52 + t) * y) (sym (pow-add 2 x 1074) ∙ ap (λ (y : ℕ). 2 ^ y) (sum x)) ∙ ap (λ (y : ℕ). y * 2 ^ (suc x + 1021 + 52)) (add-comm (2 ^ 52) t)
+pub finite-value : (s : Bool) (x t : ℕ) → x < 2047 → Is (at s x t) s (unitsOf x t)
+unfolding unitsOf ofFields
+finite-value s zero t k = subst (Is (at s 0 t) s) (mul-one t) (odd-sign 53 s t 0 1074)
+finite-value s (suc x) t k = mid-value s x t k
+
+-- a finite number above 0
+pub positive : (x t : ℕ) → x < 2047 → 0 < x + t → sqrtOf (at false x t) ≡ roundRoot (unitsOf x t * unit)
+positive x t k h = sqrt-value (at false x t) (unitsOf x t) (units-pos x t h) (finite-value false x t k)
 
 pub infinite : (t : ℕ) → sqrtOf (at false 2047 t) ≡ at false 2047 t
 unfolding ofFields
@@ -86,11 +87,9 @@ top-neg t = go (eqb t 0)
     go true = unfold sqrtOf in refl
     go false = unfold sqrtOf in refl
 
-pub negative : (x t : ℕ) → x ≤ 2047 → (x ≡ 0 → 0 < t) → sqrtOf (at true x t) ≡ nan
-unfolding ofFields
-negative zero t h z = below-value (at true 0 t) (t * 2 ^ 0) (mul-pos (z refl) (pow-pos 0)) (odd-sign 53 true t 0 1074)
-negative (suc x) t h z = go (eq-or-lt-of-le h)
+pub negative : (x t : ℕ) → x ≤ 2047 → 0 < x + t → sqrtOf (at true x t) ≡ nan
+negative x t h p = go (eq-or-lt-of-le h)
   where
-    go : (suc x ≡ 2047) ⊎ (suc x < 2047) → sqrtOf (at true (suc x) t) ≡ nan
+    go : (x ≡ 2047) ⊎ (x < 2047) → sqrtOf (at true x t) ≡ nan
     go (inl e) = subst (λ (y : ℕ). sqrtOf (at true y t) ≡ nan) (sym e) (top-neg t)
-    go (inr l) = below-value (at true (suc x) t) ((2 ^ 52 + t) * 2 ^ x) (mid-pos x t) (mid-value true x t l)
+    go (inr l) = below-value (at true x t) (unitsOf x t) (units-pos x t p) (finite-value true x t l)

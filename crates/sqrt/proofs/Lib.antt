@@ -1,5 +1,5 @@
 pub mod Root
 pub mod Rounded
 pub mod Pattern
-pub mod Scaled
+pub mod Scale
 pub mod Fields

@@ -9,9 +9,8 @@ ghost use mathlib.Core.Bool.{true, not};
 ghost use lib.Dec.{T};
 ghost use lib.Ieee.{isNan};
 ghost use Prim.Native.Nat.{_+_, _*_, _^_, _≤_, _<_};
-ghost use Rattle.number.specs.Units.{unit};
 ghost use Rattle.sqrt.specs.Sqrt.{roundRoot, sqrtOf};
-ghost use Rattle.sqrt.specs.Nearest.{Nearest, Pieces, IsDigit};
+ghost use Rattle.sqrt.specs.Nearest.{Nearest, Pieces, IsDigit, IsScaled};
 
 // The coefficients of c0 + c1 * f - c2 * f ^ 2 + c3 * f ^ 3.
 struct Cubic(f64, f64, f64, f64);
@@ -20,6 +19,12 @@ struct Cubic(f64, f64, f64, f64);
 struct Halves {
     cut: f64,
     rest: f64,
+}
+
+// A significand of 53 digits, and what stands for its exponent.
+struct Significand {
+    m: u64,
+    g: u64,
 }
 
 // A root's whole part, and what the number has more than its square.
@@ -73,12 +78,12 @@ fn candidate(m: u64, odd: u64) -> Halves
     requires { ⌜ (4503599627370496 ≤ m) × (m < 9007199254740992) × (odd < 2) ⌝ }
     ensures { λ r. ⌜ (T (not (isNan (r .rest))) → T (not (isNan (r .cut)))) ⌝ }
 {
-    let one = 0x3fe0_0000_0000_0000;
-    let f = f64::from_bits(one + m);
-    let v = f64::from_bits(one + m + odd * 4503599627370496);
+    let f = f64::from_bits(m + 0x3fe0_0000_0000_0000);
     let c = cubic_for(m >> 47);
-    let scale = if odd == 0 { 1.0 } else { 1.4142135623730951 };
-    let near = (c.0 + c.1 * f - (f * f) * (c.2 - c.3 * f)) * scale;
+    let two = if odd == 1 { 2.0 } else { 1.0 };
+    let root_two = if odd == 1 { 1.4142135623730951 } else { 1.0 };
+    let v = f * two;
+    let near = (c.0 + c.1 * f - (f * f) * (c.2 - c.3 * f)) * root_two;
     let cut = near + 201326591.99999997;
     let s = cut - 201326591.99999997;
     let rest = (v - s * s) / (s + near) + 1.5000000298023224;
@@ -162,13 +167,23 @@ fn root_of(m: u64, g: u64) -> f64
     f64::from_bits((g / 2) * 4503599627370496 + q)
 }
 
-// The root of a subnormal number: its fraction is shifted up to 53 digits.
-fn root_of_subnormal(fraction: u64) -> f64
-    requires { ⌜ (0 < fraction) × (fraction < 4503599627370496) ⌝ }
-    ensures { λ r. ⌜ r ≡ roundRoot (fraction * unit) ⌝ }
+// A finite number above 0 as m * 2 ^ (g + 52) / 2 ^ 1074 units, with an m of 53 digits: a subnormal number's fraction is shifted up.
+fn scaled(exponent: u64, fraction: u64) -> Significand
+    requires { ⌜ (exponent < 2047) × (fraction < 4503599627370496) × (0 < exponent + fraction) ⌝ }
+    ensures { λ r. ⌜ IsScaled exponent fraction (r .m) (r .g) ⌝ }
 {
-    let z = u64::leading_zeros(fraction) as u64 - 11;
-    root_of(fraction << z, 1022 - z)
+    if exponent == 0 {
+        let z = u64::leading_zeros(fraction) as u64 - 11;
+        Significand {
+            m: fraction << z,
+            g: 1022 - z,
+        }
+    } else {
+        Significand {
+            m: fraction + 4503599627370496,
+            g: exponent + 1021,
+        }
+    }
 }
 
 // The square root: of -0 it is -0, and of any other negative number a NaN.
@@ -182,19 +197,14 @@ pub fn sqrt(x: f64) -> f64
     let sign = bits >> 63;
     let exponent = (bits >> 52) & 0x7ff;
     let fraction = bits & 0xf_ffff_ffff_ffff;
-    if exponent == 0 {
-        if fraction == 0 {
-            x
-        } else if sign == 1 {
-            0.0 / 0.0
-        } else {
-            root_of_subnormal(fraction)
-        }
+    if exponent + fraction == 0 {
+        x
     } else if sign == 1 {
         0.0 / 0.0
     } else if exponent == 2047 {
         x
     } else {
-        root_of(fraction + 4503599627370496, exponent + 1021)
+        let s = scaled(exponent, fraction);
+        root_of(s.m, s.g)
     }
 }

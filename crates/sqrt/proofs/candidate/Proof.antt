@@ -1,4 +1,4 @@
--- `sqrt::candidate` meets its contract: its two patterns are no NaN's, and a NaN stays one. Assumes nothing.
+-- `sqrt::candidate` meets its contract: its pattern is no NaN's, and a NaN stays one. Assumes nothing.
 use mathlib.Core.Path.{_≡_, sym, subst}
 use Prim.Native.Nat.{ℕ, _+_, _*_, _^_, _≤_}
 use native.Mathlib.Omega.{arith}
@@ -28,18 +28,6 @@ add-f c = search needs
 float-from-bits-f : tie.Need-float-from-bits-f
 float-from-bits-f c = number _ (omega arith)
 
-add-v : tie.Need-add-v
-add-v c = search needs
-
-mul-v : tie.Need-mul-v
-mul-v c = search needs
-
-add-v-2 : tie.Need-add-v-2
-add-v-2 c = search needs
-
-float-from-bits-v : tie.Need-float-from-bits-v
-float-from-bits-v c = number _ (omega arith)
-
 cubic-for-requires : tie.Need-cubic-for-requires
 cubic-for-requires c κs = tt
 
@@ -47,4 +35,4 @@ returns : tie.Need-returns
 returns c h = stays _ _ _ _ _ h
 
 pub candidate-spec : {M : Type 1} → statement M
-candidate-spec = tie.close (tie.spec add-f float-from-bits-f add-v mul-v add-v-2 float-from-bits-v cubic-for-requires returns)
+candidate-spec = tie.close (tie.spec add-f float-from-bits-f cubic-for-requires returns)

@@ -9,7 +9,7 @@ use lib.Bits.{bitAnd, mask-lt}
 use lib.Ieee.{Float, nan, inf, fin, binary64, eq, isNan, toBits}
 use borrow.Author.Needs.{needs}
 use Rattle.sqrt.specs.Nearest.{Nearest, Pieces}
-use Rattle.sqrt.proofs.Scaled.{doubled, shift-is}
+use Rattle.sqrt.proofs.Scale.{doubled, shift-is}
 use Rattle.sqrt.proofs.nearest.Statement.{statement}
 use Rattle.sqrt.proofs.nearest.Tie as tie
 

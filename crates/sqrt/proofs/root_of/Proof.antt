@@ -8,7 +8,7 @@ use borrow.Author.Needs.{needs}
 use Rattle.sqrt.specs.Sqrt.{roundRoot}
 use Rattle.sqrt.proofs.Rounded.{rounded, digits-lo, digits-hi}
 use Rattle.sqrt.proofs.Pattern.{bits-units, no-nan-bits}
-use Rattle.sqrt.proofs.Scaled.{split, doubled, in-range}
+use Rattle.sqrt.proofs.Scale.{split, doubled, in-range}
 use Rattle.sqrt.proofs.root_of.Statement.{statement}
 use Rattle.sqrt.proofs.root_of.Tie as tie
 

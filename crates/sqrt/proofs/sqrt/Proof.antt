@@ -9,10 +9,10 @@ use lib.Pow.{field}
 use lib.Bits.{bitAnd, and-mask}
 use lib.Ieee.{Float, nan, binary64, toBits, ofBits, fits, div}
 use lib.Ieee.Bits.{ofBits-toBits, toBits-lt, is-true, is-false}
-use Rattle.sqrt.specs.Sqrt.{sqrtOf}
+use Rattle.sqrt.specs.Sqrt.{sqrtOf, roundRoot}
 use Rattle.number.proofs.Sign.{is-nan, no-nan}
 use Rattle.number.proofs.Values.{bits-is}
-use Rattle.sqrt.proofs.Fields.{at, zero-field, subnormal, normal, infinite, negative}
+use Rattle.sqrt.proofs.Fields.{at, zero-field, positive, infinite, negative}
 use Rattle.sqrt.proofs.sqrt.Statement.{statement}
 use Rattle.sqrt.proofs.sqrt.Tie as tie
 
@@ -51,17 +51,14 @@ module _ (c : tie.Else1) where
 float-to-bits-bits : tie.Need-float-to-bits-bits
 float-to-bits-bits c = no-nan (c .before .args .x) (c .if1 .left)
 
-root-of-subnormal-requires : tie.Need-root-of-subnormal-requires
-root-of-subnormal-requires c κs = omega (arith, c .before .if3 .left, fraction (c .before .before .before))
+add-if2 : tie.Need-add-if2
+add-if2 c = omega (arith, exp-le c, fraction c)
 
-add-root-of : tie.Need-add-root-of
-add-root-of c = omega (arith, fraction (c .before .before .before))
-
-add-root-of-2 : tie.Need-add-root-of-2
-add-root-of-2 c = omega (arith, exp-le (c .before .before .before))
+scaled-requires : tie.Need-scaled-requires
+scaled-requires c κs = let t = c .before .before .before in omega (arith, c .if4 .left, c .before .before .if2 .left, fraction t, exp-le t)
 
 root-of-requires : tie.Need-root-of-requires
-root-of-requires c κs = let t = c .before .before .before in omega (arith, c .if6 .left, fraction t, exp-le t)
+root-of-requires c κs = let s = c .scaled .ensures in (s .lo, s .hi, s .top)
 
 -- a NaN
 returns : tie.Need-returns
@@ -71,63 +68,39 @@ returns c = let e = is-nan (c .before .args .x) (c .if1 .taken) in e ∙ sym (ap
 -- a zero
 returns-2 : tie.Need-returns-2
 returns-2 c =
-    let t = c .before .before in
+    let t = c .before in
     let s = leb (2 ^ 63) (b t) in
-    let e : x t ≡ at s 0 0 = is t ∙ ap (λ (k : ℕ). at s k (bitAnd (b t) 4503599627370495)) (c .before .if2 .taken) ∙ ap (λ (k : ℕ). at s 0 k) (c .if3 .taken) in
+    let k = bitAnd (b t / 2 ^ 52) 2047 in
+    let f = bitAnd (b t) 4503599627370495 in
+    let z : (k ≡ 0) × (f ≡ 0) = (omega (arith, c .if2 .taken), omega (arith, c .if2 .taken)) in
+    let e : x t ≡ at s 0 0 = is t ∙ ap (λ (y : ℕ). at s y f) (z .0) ∙ ap (λ (y : ℕ). at s 0 y) (z .1) in
     e ∙ sym (zero-field s) ∙ sym (ap sqrtOf e)
 
--- negative, and subnormal
+-- negative
 returns-3 : tie.Need-returns-3
 unfolding ofBits div
 returns-3 c =
-    let t = c .before .before .before in
-    sym (ap sqrtOf (is-neg t (c .if4 .taken)) ∙ negative (bitAnd (b t / 2 ^ 52) 2047) (bitAnd (b t) 4503599627370495) (exp-le t) (λ e. omega (arith, c .before .if3 .left)))
-
--- above zero, and subnormal
-returns-4 : tie.Need-returns-4
-returns-4 c =
-    let t = c .before .before .before .before in
-    let f = bitAnd (b t) 4503599627370495 in
-    let e : x t ≡ at false 0 f = is-pos t (c .before .if4 .left) ∙ ap (λ (k : ℕ). at false k f) (c .before .before .before .if2 .taken) in
-    c .root-of-subnormal .ensures ∙ sym (ap sqrtOf e ∙ subnormal f (omega (arith, c .before .before .if3 .left)))
-
--- negative
-returns-5 : tie.Need-returns-5
-unfolding ofBits div
-returns-5 c =
     let t = c .before .before in
-    sym (ap sqrtOf (is-neg t (c .if5 .taken)) ∙ negative (bitAnd (b t / 2 ^ 52) 2047) (bitAnd (b t) 4503599627370495) (exp-le t) (λ e. absurd (c .before .if2 .left e)))
+    sym (ap sqrtOf (is-neg t (c .if3 .taken)) ∙ negative (bitAnd (b t / 2 ^ 52) 2047) (bitAnd (b t) 4503599627370495) (exp-le t) (omega (arith, c .before .if2 .left)))
 
 -- the infinity
-returns-6 : tie.Need-returns-6
-returns-6 c =
+returns-4 : tie.Need-returns-4
+returns-4 c =
     let t = c .before .before .before in
     let f = bitAnd (b t) 4503599627370495 in
-    let e : x t ≡ at false 2047 f = is-pos t (c .before .if5 .left) ∙ ap (λ (k : ℕ). at false k f) (c .if6 .taken) in
+    let e : x t ≡ at false 2047 f = is-pos t (c .before .if3 .left) ∙ ap (λ (k : ℕ). at false k f) (c .if4 .taken) in
     e ∙ sym (infinite f) ∙ sym (ap sqrtOf e)
 
--- above zero
-returns-7 : tie.Need-returns-7
-returns-7 c =
-    let t = c .before .before .before .before in
+-- finite, and above zero
+returns-5 : tie.Need-returns-5
+returns-5 c =
+    let s = c .before .before in
+    let t = s .before .before .before in
     let f = bitAnd (b t) 4503599627370495 in
     let k = bitAnd (b t / 2 ^ 52) 2047 in
     c .root-of .ensures
-    ∙ sym (ap sqrtOf (is-pos t (c .before .before .if5 .left)) ∙ normal k f (omega (arith, c .before .before .before .if2 .left)) (omega (arith, exp-le t, c .before .if6 .left)))
+    ∙ ap roundRoot (c .before .scaled .ensures .is)
+    ∙ sym (ap sqrtOf (is-pos t (s .before .if3 .left)) ∙ positive k f (omega (arith, exp-le t, s .if4 .left)) (omega (arith, s .before .before .if2 .left)))
 
 pub sqrt-spec : {M : Type 1} → statement M
-sqrt-spec =
-    tie.close
-    (tie.spec
-    returns
-    float-to-bits-bits
-    root-of-subnormal-requires
-    add-root-of
-    add-root-of-2
-    root-of-requires
-    returns-2
-    returns-3
-    returns-4
-    returns-5
-    returns-6
-    returns-7)
+sqrt-spec = tie.close (tie.spec returns float-to-bits-bits add-if2 scaled-requires root-of-requires returns-2 returns-3 returns-4 returns-5)
