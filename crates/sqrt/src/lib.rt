@@ -78,12 +78,12 @@ fn candidate(m: u64, odd: u64) -> Halves
     requires { ⌜ (4503599627370496 ≤ m) × (m < 9007199254740992) × (odd < 2) ⌝ }
     ensures { λ r. ⌜ (T (not (isNan (r .rest))) → T (not (isNan (r .cut)))) ⌝ }
 {
-    let f = f64::from_bits(m + 0x3fe0_0000_0000_0000);
+    let bits = m + 0x3fe0_0000_0000_0000;
+    let f = f64::from_bits(bits);
+    let v = f64::from_bits(bits + (odd << 52));
     let c = cubic_for(m >> 47);
-    let two = if odd == 1 { 2.0 } else { 1.0 };
-    let root_two = if odd == 1 { 1.4142135623730951 } else { 1.0 };
-    let v = f * two;
-    let near = (c.0 + c.1 * f - (f * f) * (c.2 - c.3 * f)) * root_two;
+    let scale = if odd == 0 { 1.0 } else { 1.4142135623730951 };
+    let near = (c.0 + c.1 * f - (f * f) * (c.2 - c.3 * f)) * scale;
     let cut = near + 201326591.99999997;
     let s = cut - 201326591.99999997;
     let rest = (v - s * s) / (s + near) + 1.5000000298023224;

@@ -22,11 +22,17 @@ stays nan k (fin s m e) near l h = h
 stays (inf s) k v near l h = tt
 stays (fin s m e) k v near l h = tt
 
-add-f : tie.Need-add-f
-add-f c = search needs
+add-bits : tie.Need-add-bits
+add-bits c = search needs
 
 float-from-bits-f : tie.Need-float-from-bits-f
 float-from-bits-f c = number _ (omega arith)
+
+add-v : tie.Need-add-v
+add-v c = search needs
+
+float-from-bits-v : tie.Need-float-from-bits-v
+float-from-bits-v c = number _ (omega arith)
 
 cubic-for-requires : tie.Need-cubic-for-requires
 cubic-for-requires c κs = tt
@@ -35,4 +41,4 @@ returns : tie.Need-returns
 returns c h = stays _ _ _ _ _ h
 
 pub candidate-spec : {M : Type 1} → statement M
-candidate-spec = tie.close (tie.spec add-f float-from-bits-f cubic-for-requires returns)
+candidate-spec = tie.close (tie.spec add-bits float-from-bits-f add-v float-from-bits-v cubic-for-requires returns)
