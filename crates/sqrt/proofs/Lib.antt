@@ -3,3 +3,5 @@ pub mod Rounded
 pub mod Pattern
 pub mod Scale
 pub mod Fields
+pub mod Shape
+pub mod Correct

@@ -1,0 +1,137 @@
+-- The square root is right, over whole numbers: nobody needs to believe the definition `sqrtOf`. A finite number x is mag x units of 2 ^ -1074, and `unit` of them
+-- make 1, so that its exact root, in units, is the root of mag x * unit. Assumes nothing.
+use mathlib.Core.Path.{_≡_, refl, sym, ap, _∙_, subst}
+use mathlib.Core.Logic.{_⊎_, inl, inr}
+use Prim.Native.Nat.{ℕ, zero, suc, _+_, _-_, _*_, _^_, _≤_, _<_, zero-le}
+use native.Mathlib.Nat.{le-trans, le-of-eq, le-of-suc-le-suc, lt-of-lt-of-le, lt-of-le-of-lt, lt-of-not-le, lt-irrefl, eq-zero-or-pos, eq-or-lt-of-le, zero-lt-suc, zero-mul, mul-pos, mul-assoc, mul-mul-mul-comm, mul-le-mul, mul-le-mul-right, mul-le-mul-left, mul-lt-mul-of-pos-right, lt-trans, le-of-mul-le-mul-right}
+use native.Mathlib.Omega.{arith}
+use native.Mathlib.Numerals.{add-one}
+use mathlib.Core.Bool.{Bool, true, false, true≢false}
+use lib.Dec.{T, lit≤}
+use lib.Pow.{pow-pos}
+use lib.Ieee.{Float, nan, inf, fin, binary64, up, down, units, fits, le}
+use lib.Ieee.Fits.{up-pos}
+use lib.Ieee.Order.{le-of-values}
+use lib.Ieee.Positive.{positive, positive-of-value, values-of-le, above, above-of-le}
+use lib.Ieee.Scale.{finite}
+use Rattle.number.specs.Units.{unit, mag, neg?}
+use Rattle.number.proofs.Values.{Is, is-own, Held, held}
+use Rattle.number.proofs.Neighbours.{above-next, under-next}
+use Rattle.sqrt.specs.Sqrt.{sqrtOf, roundRoot}
+use Rattle.sqrt.specs.Nearest.{Nearest}
+use Rattle.sqrt.proofs.Pattern.{units-fits, units-finite, under-top}
+use Rattle.sqrt.proofs.Shape.{Shape, shape, own, root-is, root-mag}
+
+-- ---- the arithmetic: U is 2 ^ j, the result is g * U, the exact root that of M * (U * U)
+square-lt : (x y : ℕ) → x < y → x * x < y * y
+square-lt x y h = lt-of-lt-of-le (more x) (mul-le-mul h h)
+  where
+    more : (x : ℕ) → x * x < suc x * suc x
+    more x = omega arith
+
+farther-above : (M g U c : ℕ) → 0 < U → Nearest M g → (g + 1) * U ≤ c → 4 * (M * (U * U)) < (g * U + c) * (g * U + c)
+farther-above M g U c P h l =
+    lt-of-lt-of-le
+    (lt-of-le-of-lt (le-of-eq (sym (mul-assoc 4 M (U * U))))
+    (lt-of-lt-of-le (mul-lt-mul-of-pos-right (middle M g (h .high)) (mul-pos P P)) (le-of-eq (mul-mul-mul-comm (2 * g + 1) (2 * g + 1) U U))))
+    (mul-le-mul (sum g U c l) (sum g U c l))
+  where
+    middle : (M g : ℕ) → M ≤ g * g + g → 4 * M < (2 * g + 1) * (2 * g + 1)
+    middle M g h = omega arith
+
+    sum : (g U c : ℕ) → (g + 1) * U ≤ c → (2 * g + 1) * U ≤ g * U + c
+    sum g U c l = omega arith
+
+farther-below : (M k U c : ℕ) → 0 < U → Nearest M (k + 1) → c ≤ k * U → ((k + 1) * U + c) * ((k + 1) * U + c) < 4 * (M * (U * U))
+farther-below M k U c P h l =
+    lt-of-le-of-lt (mul-le-mul (sum k U c l) (sum k U c l))
+    (lt-of-le-of-lt (le-of-eq (mul-mul-mul-comm (2 * k + 1) U (2 * k + 1) U))
+    (lt-of-lt-of-le (mul-lt-mul-of-pos-right (middle M k (h .low)) (mul-pos P P)) (le-of-eq (mul-assoc 4 M (U * U)))))
+  where
+    middle : (M k : ℕ) → (k + 1) * (k + 1) < M + (k + 1) → (2 * k + 1) * (2 * k + 1) < 4 * M
+    middle M k h = omega arith
+
+    sum : (k U c : ℕ) → c ≤ k * U → (k + 1) * U + c ≤ (2 * k + 1) * U
+    sum k U c l = omega arith
+
+-- below a power of two the numbers stand closer, but there the root is no less than the result
+farther-power : (M g U c : ℕ) → g * g ≤ M → c < g * U → (g * U + c) * (g * U + c) < 4 * (M * (U * U))
+farther-power M g U c h l = lt-of-lt-of-le (square-lt (g * U + c) (g * U + g * U) (omega arith)) (le-trans (le-of-eq (re g U)) (mul-le-mul-left 4 (mul-le-mul-right (U * U) h)))
+  where
+    re : (g U : ℕ) → (g * U + g * U) * (g * U + g * U) ≡ 4 * (g * g * (U * U))
+    re g U = omega arith
+
+-- g and c are whole numbers of units, n is the exact root's square: c is farther from the exact root than g, whether it lies above g or below
+abbrev pub Farther : ℕ → ℕ → ℕ → Type 0
+Farther n g c = (g < c → 4 * n < (g + c) * (g + c)) × (c < g → (g + c) * (g + c) < 4 * n)
+
+farther : (x : Float) (s : Shape x) (c : ℕ) → Held c → Farther (s .M * (2 ^ s .j * 2 ^ s .j)) (s .g * 2 ^ s .j) c
+farther x s c h = (
+  λ l. farther-above (s .M) (s .g) (2 ^ s .j) c (pow-pos (s .j)) (s .near) (above-next c (s .g) (s .j) h (s .lo) l),
+  λ l. below (s .g) (s .near) (s .lo) l (eq-or-lt-of-le (s .lo)),
+)
+  where
+    below : (g : ℕ) → Nearest (s .M) g → 2 ^ 52 ≤ g → c < g * 2 ^ s .j → (2 ^ 52 ≡ g) ⊎ (2 ^ 52 < g) → (g * 2 ^ s .j + c) * (g * 2 ^ s .j + c) < 4 * (s .M * (2 ^ s .j * 2 ^ s .j))
+    below g n lo l (inl e) = farther-power (s .M) g (2 ^ s .j) c (subst (λ (y : ℕ). y * y ≤ s .M) e (s .above)) l
+    below zero n lo l (inr p) = absurd (omega arith)
+    below (suc k) n lo l (inr p) =
+        subst (λ (y : ℕ). (y * 2 ^ s .j + c) * (y * 2 ^ s .j + c) < 4 * (s .M * (2 ^ s .j * 2 ^ s .j))) (add-one k)
+        (farther-below (s .M) k (2 ^ s .j) c (pow-pos (s .j)) (subst (Nearest (s .M)) (sym (add-one k)) n) (under-next c k (s .j) h (le-of-suc-le-suc p) (subst (λ (y : ℕ). c < y * 2 ^ s .j) (sym (add-one k)) l)))
+
+-- THE SQUARE ROOT IS CORRECTLY ROUNDED. For every finite binary64 number x above 0 the result is a finite binary64 number above 0, and every other binary64 number y of
+-- at least 0 is farther from the exact root than the result is: never nearer, and never as near. With g and c for the two in units, the exact root lies below the middle
+-- of g and a c above it, and above the middle of g and a c below it; both are said of the doubled squares, 4 * mag x * unit and (g + c) ^ 2.
+pub sqrt-correct : (x : Float) → T (fits binary64 x) → T (finite x) → neg? x ≡ false → 0 < mag x
+    → T (fits binary64 (sqrtOf x)) × T (finite (sqrtOf x)) × (neg? (sqrtOf x) ≡ false) × (0 < mag (sqrtOf x))
+    × ((y : Float) → T (fits binary64 y) → T (finite y) → Farther (mag x * unit) (mag (sqrtOf x)) (mag y))
+sqrt-correct x f h n A =
+    let s = shape x f h n A in
+    let o = is-own (sqrtOf x) false (s .g * 2 ^ s .j) (root-is x s) in (
+      subst (λ (y : Float). T (fits binary64 y)) (sym (s .root)) (units-fits (s .g) (s .j) (s .hi)),
+      subst (λ (y : Float). T (finite y)) (sym (s .root)) (units-finite (s .g) (s .j) (under-top (s .g) (s .j) (s .hi) (s .few))),
+      o .0,
+      subst (λ (k : ℕ). 0 < k) (sym (o .1)) (mul-pos (lt-of-lt-of-le (pow-pos 52) (s .lo)) (pow-pos (s .j))),
+      λ y fy hy. subst (λ (k : ℕ). Farther k (mag (sqrtOf x)) (mag y)) (sym (s .is)) (subst (λ (k : ℕ). Farther (s .M * (2 ^ s .j * 2 ^ s .j)) k (mag y)) (sym (o .1)) (farther x s (mag y) (held y fy hy))),
+    )
+
+-- ---- zeros
+zero-same : (x : Float) → T (finite x) → mag x ≡ 0 → T (fits binary64 x) → sqrtOf x ≡ x
+unfolding sqrtOf
+zero-same (fin s zero e) h z f = refl
+zero-same (fin s (suc m) e) h z f = absurd (lt-irrefl 0 (subst (λ (k : ℕ). 0 < k) (Rattle.number.proofs.Values.whole (fin s (suc m) e) f h .1 ∙ ap (λ (k : ℕ). k * down e) z ∙ zero-mul (down e)) (mul-pos (mul-pos (zero-lt-suc m) (up-pos e)) (pow-pos 1074))))
+
+-- ---- what callers cite
+-- the root of a binary64 number is one
+pub sqrt-fits : (x : Float) → T (fits binary64 x) → T (fits binary64 (sqrtOf x))
+sqrt-fits x f = go x f refl
+  where
+    go : (y : Float) → T (fits binary64 y) → x ≡ y → T (fits binary64 (sqrtOf y))
+    go nan g e = unfold sqrtOf fits in tt
+    go (inf true) g e = unfold sqrtOf fits in tt
+    go (inf false) g e = unfold sqrtOf fits in tt
+    go (fin s zero d) g e = unfold sqrtOf in g
+    go (fin true (suc m) d) g e = unfold sqrtOf fits in tt
+    go (fin false (suc m) d) g e = pos (fin false (suc m) d) g tt refl (eq-zero-or-pos (mag (fin false (suc m) d)))
+      where
+        pos : (y : Float) → T (fits binary64 y) → T (finite y) → neg? y ≡ false → (mag y ≡ 0) ⊎ (0 < mag y) → T (fits binary64 (sqrtOf y))
+        pos y g h n (inl z) = subst (λ (v : Float). T (fits binary64 v)) (sym (zero-same y h z g)) g
+        pos y g h n (inr A) = sqrt-correct y g h n A .0
+
+module _ (x : Float) (f : T (fits binary64 x)) (h : T (finite x)) (n : neg? x ≡ false) where
+  -- a finite number that is not negative has a finite root
+  pub sqrt-finite : T (finite (sqrtOf x))
+  sqrt-finite = go (eq-zero-or-pos (mag x))
+    where
+      go : (mag x ≡ 0) ⊎ (0 < mag x) → T (finite (sqrtOf x))
+      go (inl z) = subst (λ (v : Float). T (finite v)) (sym (zero-same x h z f)) h
+      go (inr A) = sqrt-correct x f h n A .1
+
+  pub sqrt-sign : neg? (sqrtOf x) ≡ false
+  sqrt-sign = go (eq-zero-or-pos (mag x))
+    where
+      go : (mag x ≡ 0) ⊎ (0 < mag x) → neg? (sqrtOf x) ≡ false
+      go (inl z) = ap neg? (zero-same x h z f) ∙ n
+      go (inr A) = sqrt-correct x f h n A .2
+
+  pub sqrt-is : Is (sqrtOf x) false (mag (sqrtOf x))
+  sqrt-is = own (sqrtOf x) (sqrt-fits x f) sqrt-finite sqrt-sign
