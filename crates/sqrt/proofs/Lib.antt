@@ -5,3 +5,4 @@ pub mod Scale
 pub mod Fields
 pub mod Shape
 pub mod Correct
+pub mod Laws

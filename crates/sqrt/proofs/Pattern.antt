@@ -23,7 +23,7 @@ units-fits q k a = go (ltb (q * 2 ^ k) (2 ^ 2098)) (ltb→lt (q * 2 ^ k) (2 ^ 20
     go true h = odd-fits binary64 54 false q k (lt-of-le-of-lt a (pow-lt (le-refl 54))) a (h tt)
     go false h = unfold fits in tt
 
-odd-finite : (d : ℕ) (s : Bool) (q k l : ℕ) → T (finite (odd d s q k l))
+pub odd-finite : (d : ℕ) (s : Bool) (q k l : ℕ) → T (finite (odd d s q k l))
 unfolding odd
 odd-finite d s Prim.Native.Nat.zero k l = tt
 odd-finite d s (suc q) k l = tt
