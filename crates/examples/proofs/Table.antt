@@ -1,6 +1,6 @@
 -- The charted examples hold, each by evaluation of the definitions. Assumes nothing.
-use mathlib.Core.Path.{_≡_, refl}
-use lib.Ieee.{binary64, toBits}
+use mathlib.Core.Path.{refl}
+use lib.Ieee.{toBits}
 use Rattle.sqrt.specs.Sqrt.{sqrtOf}
 use Rattle.examples.specs.Table.{Table}
 

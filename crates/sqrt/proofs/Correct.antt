@@ -1,26 +1,24 @@
 -- The square root is right, over whole numbers: nobody needs to believe the definition `sqrtOf`. A finite number x is mag x units of 2 ^ -1074, and `unit` of them
 -- make 1, so that its exact root, in units, is the root of mag x * unit. Assumes nothing.
-use mathlib.Core.Path.{_≡_, refl, sym, ap, _∙_, subst}
+use mathlib.Core.Path.{_≡_, sym, subst}
 use mathlib.Core.Logic.{_⊎_, inl, inr}
-use Prim.Native.Nat.{ℕ, zero, suc, _+_, _-_, _*_, _^_, _≤_, _<_, zero-le}
-use native.Mathlib.Nat.{le-trans, le-of-eq, le-of-suc-le-suc, lt-of-lt-of-le, lt-of-le-of-lt, lt-of-not-le, lt-irrefl, eq-zero-or-pos, eq-or-lt-of-le, zero-lt-suc, zero-mul, mul-pos, mul-assoc, mul-mul-mul-comm, mul-le-mul, mul-le-mul-right, mul-le-mul-left, mul-lt-mul-of-pos-right, lt-trans, le-of-mul-le-mul-right}
+use Prim.Native.Nat.{ℕ, zero, suc, _+_, _*_, _^_, _≤_, _<_}
+use native.Mathlib.Nat.{le-trans, le-of-eq, le-of-suc-le-suc, lt-of-lt-of-le, lt-of-le-of-lt, eq-or-lt-of-le, mul-pos, mul-assoc, mul-mul-mul-comm, mul-le-mul, mul-le-mul-right, mul-le-mul-left, mul-lt-mul-of-pos-right}
 use native.Mathlib.Omega.{arith}
 use native.Mathlib.Numerals.{add-one}
-use mathlib.Core.Bool.{Bool, true, false, true≢false}
-use lib.Dec.{T, lit≤}
+use mathlib.Core.Bool.{false}
+use lib.Dec.{T}
 use lib.Pow.{pow-pos}
-use lib.Ieee.{Float, nan, inf, fin, binary64, up, down, units, fits, le}
-use lib.Ieee.Fits.{up-pos}
-use lib.Ieee.Order.{le-of-values}
-use lib.Ieee.Positive.{positive, positive-of-value, values-of-le, above, above-of-le}
+use lib.Ieee.{Float, binary64, fits}
+use lib.Ieee.Positive.{above}
 use lib.Ieee.Scale.{finite}
 use Rattle.number.specs.Units.{unit, mag, neg?}
-use Rattle.number.proofs.Values.{Is, is-own, Held, held}
+use Rattle.number.proofs.Values.{is-own, Held, held}
 use Rattle.number.proofs.Neighbours.{above-next, under-next}
-use Rattle.sqrt.specs.Sqrt.{sqrtOf, roundRoot}
+use Rattle.sqrt.specs.Sqrt.{sqrtOf}
 use Rattle.sqrt.specs.Nearest.{Nearest}
 use Rattle.sqrt.proofs.Pattern.{units-fits, units-finite, under-top}
-use Rattle.sqrt.proofs.Shape.{Shape, shape, own, root-is, root-mag}
+use Rattle.sqrt.proofs.Shape.{Shape, shape, root-is}
 
 -- ---- the arithmetic: U is 2 ^ j, the result is g * U, the exact root that of M * (U * U)
 square-lt : (x y : ℕ) → x < y → x * x < y * y

@@ -10,7 +10,7 @@ use lib.Pow.{pow-pos}
 use lib.Ieee.{Float, nan, inf, fin, binary64, up, down, odd, ofFields}
 use lib.Ieee.Fits.{down-pos}
 use lib.Ieee.Exact.{odd-sign}
-use Rattle.number.specs.Units.{unit, mag}
+use Rattle.number.specs.Units.{unit}
 use Rattle.number.proofs.Values.{Is, is-own}
 use Rattle.sqrt.specs.Sqrt.{sqrtOf, roundRoot}
 use Rattle.sqrt.specs.Nearest.{unitsOf}

@@ -2,7 +2,7 @@
 use mathlib.Core.Path.{_≡_, refl, sym, ap, _∙_, subst}
 use mathlib.Core.Logic.{_⊎_, inl, inr}
 use Prim.Native.Nat.{ℕ, zero, suc, _+_, _-_, _*_, _/_, _^_, _≤_, _<_, zero-le, compare}
-use native.Mathlib.Nat.{le-refl, le-trans, le-of-eq, le-of-suc-le-suc, lt-of-lt-of-le, lt-of-le-of-lt, lt-of-not-le, not-le-of-lt, le-of-lt, lt-irrefl, eq-zero-or-pos, zero-lt-suc, zero-mul, mul-pos, mul-mul-mul-comm, mul-right-comm, mul-le-mul-right, mul-le-mul-left, le-of-mul-le-mul-right}
+use native.Mathlib.Nat.{le-trans, le-of-eq, le-of-suc-le-suc, lt-of-lt-of-le, lt-of-not-le, lt-irrefl, eq-zero-or-pos, zero-lt-suc, zero-mul, mul-pos, mul-right-comm, mul-le-mul-right, mul-le-mul-left, le-of-mul-le-mul-right}
 use native.Mathlib.Omega.{arith}
 use mathlib.Core.Bool.{Bool, true, false, cond}
 use lib.Dec.{T, ltb}
@@ -13,11 +13,11 @@ use lib.Ieee.Order.{le-of-values}
 use lib.Ieee.Positive.{positive, positive-of-value, values-of-le, above, above-of-le}
 use lib.Ieee.Scale.{finite, overflow}
 use Rattle.number.specs.Units.{unit, mag, neg?}
-use Rattle.number.proofs.Values.{Is, whole, held}
+use Rattle.number.proofs.Values.{Is, whole}
 use Rattle.sqrt.specs.Sqrt.{sqrtOf, roundRoot, floorRoot}
 use Rattle.sqrt.specs.Nearest.{Nearest}
 use Rattle.sqrt.proofs.Pattern.{odd-finite}
-use Rattle.sqrt.proofs.Shape.{Shape, shape, own, root-mag}
+use Rattle.sqrt.proofs.Shape.{shape, own, root-mag}
 use Rattle.sqrt.proofs.Correct.{sqrt-correct}
 
 -- ---- zeros are their own roots

@@ -1,6 +1,6 @@
 -- The bit pattern of q * 2 ^ k units, for a q of 53 digits, or 2 ^ 53: k * 2 ^ 52 + q. Assumes nothing.
-use mathlib.Core.Path.{_≡_, refl, sym, ap, _∙_, subst}
-use mathlib.Core.Logic.{_⊎_, inl, inr}
+use mathlib.Core.Path.{_≡_, sym, ap, _∙_}
+use mathlib.Core.Logic.{inl, inr}
 use Prim.Native.Nat.{ℕ, suc, _+_, _-_, _*_, _/_, _%_, _^_, _≤_, _<_}
 use native.Mathlib.Nat.{le-refl, le-trans, le-of-eq, lt-of-lt-of-le, lt-of-le-of-lt, mul-le-mul, mul-le-mul-right, mul-lt-mul-of-pos-right, mul-div-cancel, eq-or-lt-of-le, zero-add}
 use native.Mathlib.Omega.{arith}
@@ -8,7 +8,7 @@ use mathlib.Core.Bool.{Bool, true, false, cond, true≢false}
 use lib.Dec.{T, ltb, ltb→lt, lt→ltb, lit≤, lit<}
 use lib.Arith.{le→nltb}
 use lib.Pow.{pow-add, pow-pos, pow-mono, pow-lt}
-use lib.Ieee.{Float, inf, fin, binary64, up, down, size, odd, units, fits, toBits, ofBits, nanBits}
+use lib.Ieee.{Float, inf, fin, binary64, down, size, odd, units, fits, toBits, ofBits, nanBits}
 use lib.Ieee.Fits.{odd-fits, down-pos}
 use lib.Ieee.Bits.{ofBits-toBits, nanBits-above, is-false}
 use lib.Ieee.Exact.{HasValue, units-val}

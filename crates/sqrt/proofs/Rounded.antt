@@ -1,10 +1,10 @@
 -- `roundRoot` of M * 4 ^ j, where M's root has 53 digits: the nearest whole number to M's root, with j zeros after it. Assumes nothing.
 use mathlib.Core.Path.{_≡_, refl, sym, ap, _∙_, subst}
-use Prim.Native.Nat.{ℕ, zero, suc, _+_, _-_, _*_, _/_, _^_, _≤_, _<_, compare, Ordering}
+use Prim.Native.Nat.{ℕ, suc, _+_, _-_, _*_, _/_, _^_, _≤_, _<_, compare, Ordering}
 use native.Mathlib.Nat.{le-trans, le-of-eq, lt-of-lt-of-le, lt-of-le-of-lt, mul-assoc, mul-le-mul-right, mul-lt-mul-of-pos-right, mul-pos, div-eq-of-lt-le, mul-mul-mul-comm, le-of-suc-le-suc, lt-of-not-le, add-sub-of-le}
 use native.Mathlib.Omega.{arith}
 use native.Mathlib.Numerals.{add-one}
-use mathlib.Core.Bool.{Bool, false}
+use mathlib.Core.Bool.{false}
 use lib.Pow.{pow-add, pow-pos}
 use lib.Ieee.{Float, binary64, size, nearest, units}
 use lib.Ieee.Digits.{size-lt, size-le}
@@ -12,7 +12,7 @@ use Rattle.number.proofs.Compare.{cmp-scale}
 use Rattle.number.proofs.Neighbours.{pow-lt-back}
 use Rattle.sqrt.specs.Sqrt.{floorRoot, roundRoot}
 use Rattle.sqrt.specs.Nearest.{Nearest}
-use Rattle.sqrt.proofs.Root.{IsRoot, floorRoot-is, under-root, above-root, near}
+use Rattle.sqrt.proofs.Root.{floorRoot-is, under-root, above-root, near}
 
 -- from the kept digits q and the dropped ones, k, on
 abbrev rootAt : ℕ → ℕ → ℕ → Float

@@ -1,5 +1,5 @@
 -- Every root is that of m * 2 ^ (g + 52), for an m of 53 digits, and so of M * 4 ^ j, for an M of 105 or 106 digits. Assumes nothing.
-use mathlib.Core.Path.{_≡_, refl, sym, ap, _∙_, subst}
+use mathlib.Core.Path.{_≡_, sym, ap, _∙_}
 use Prim.Native.Nat.{ℕ, zero, suc, _+_, _-_, _*_, _/_, _%_, _^_, _≤_, _<_}
 use native.Mathlib.Nat.{le-trans, le-of-eq, lt-of-lt-of-le, lt-of-le-of-lt, mul-le-mul-right, mul-lt-mul-of-pos-right, mul-assoc, mod-eq-of-lt}
 use native.Mathlib.Omega.{arith}

@@ -1,9 +1,8 @@
 -- The root of a finite number above 0, taken apart: with n = mag x * unit, the exact root in units squared, n is M * 4 ^ j, and the result is the whole number g
 -- nearest to M's root, with j zeros after it. Every law about the square root follows from that. Assumes nothing.
 use mathlib.Core.Path.{_≡_, refl, sym, ap, _∙_, subst}
-use mathlib.Core.Logic.{_⊎_, inl, inr}
 use Prim.Native.Nat.{ℕ, zero, suc, _+_, _-_, _*_, _/_, _%_, _^_, _≤_, _<_}
-use native.Mathlib.Nat.{le-trans, le-of-eq, le-of-lt, lt-of-lt-of-le, lt-of-le-of-lt, lt-of-not-le, not-le-of-lt, le-of-suc-le-suc, lt-irrefl, zero-lt-suc, zero-mul, mul-pos, mul-le-mul, mul-lt-mul-of-pos-right, lt-of-mul-lt-mul-right, mul-right-comm, add-sub-of-le}
+use native.Mathlib.Nat.{le-trans, le-of-eq, lt-of-lt-of-le, lt-of-le-of-lt, lt-of-not-le, not-le-of-lt, le-of-suc-le-suc, lt-irrefl, zero-lt-suc, zero-mul, mul-pos, mul-le-mul, mul-lt-mul-of-pos-right, lt-of-mul-lt-mul-right, mul-right-comm, add-sub-of-le}
 use native.Mathlib.Omega.{arith}
 use mathlib.Core.Bool.{Bool, false, _&&_}
 use lib.Dec.{T, leb, ltb, eqb, ltb→lt, lit≤}

@@ -3,12 +3,12 @@ use mathlib.Core.Path.{_≡_}
 use Prim.Native.Nat.{ℕ, zero, suc, _+_, _*_, _^_, _≤_, _<_}
 use Rattle.number.specs.Units.{unit}
 
--- the root of n lies between g - 1/2 and g + 1/2: the squares of both, less and more than n by a quarter at least, in whole numbers
+-- g is nearest to the root of n: n lies between the squares of g - 1/2 and of g + 1/2, which are g * g - g and g * g + g and a quarter more
 pub record Nearest (n g : ℕ) : Type 0 where
   pub low : g * g < n + g
   pub high : n ≤ g * g + g
 
--- one of the pieces of a rounded candidate is below 2 ^ 27, the other below 2 ^ 28
+-- the two pieces of a candidate, of 27 and of 28 bits
 pub record Pieces (high low : ℕ) : Type 0 where
   pub high-lt : high < 134217728
   pub low-lt : low < 268435456

@@ -1,6 +1,6 @@
 -- IEEE 754's squareRoot at binary64. A number is a whole multiple of 2 ^ -1074, here called a unit. Definitions only.
 use Prim.Native.Nat.{ℕ, zero, suc, _+_, _-_, _*_, _/_, _^_, compare}
-use mathlib.Core.Bool.{Bool, true, false, cond}
+use mathlib.Core.Bool.{true, false, cond}
 use lib.Dec.{leb}
 use lib.Ieee.{Float, nan, inf, fin, binary64, size, nearest, units}
 use Rattle.number.specs.Units.{unit, mag}

@@ -2,7 +2,7 @@
 //!
 //! The bits are split into sign bit, exponent field and fraction field. Where the number is finite and above 0 it is
 //! `m * 2 ^ g` with an `m` of 53 digits, up to a power of 4, and the 53 digits of the root are those of the root of
-//! `a * 2 ^ 52`, where `a` is `m` or `2 * m`. A candidate for them comes from a few floating-point steps. Nothing is proved of it:
+//! `a * 2 ^ 52`, where `a` is `m` or `2 * m`. A candidate for them comes from a few floating-point steps. Of its value nothing is proved:
 //! whole numbers test exactly that it is the nearest one, and where the test fails the digits are found one by one.
 ghost use mathlib.Core.Path.{_≡_};
 ghost use mathlib.Core.Bool.{true, not};
@@ -11,6 +11,12 @@ ghost use lib.Ieee.{isNan};
 ghost use Prim.Native.Nat.{_+_, _*_, _^_, _≤_, _<_};
 ghost use Rattle.sqrt.specs.Sqrt.{roundRoot, sqrtOf};
 ghost use Rattle.sqrt.specs.Nearest.{Nearest, Pieces, IsDigit, IsScaled};
+
+// 1.5 * 2 ^ 27 - 2 ^ -25: the last bits of a sum with it hold the other summand in units of 2 ^ -25, less 1.
+const TO_25: f64 = 201326591.99999997;
+
+// 1.5 + 2 ^ -25: the last bits of a sum with it hold the other summand in units of 2 ^ -52, and 2 ^ 27 more, so that it may be negative.
+const TO_52: f64 = 1.5000000298023224;
 
 // The coefficients of c0 + c1 * f - c2 * f ^ 2 + c3 * f ^ 3.
 struct Cubic(f64, f64, f64, f64);
@@ -33,8 +39,8 @@ struct Rooted {
     rest: u64,
 }
 
-// The cubic that is near the root between 1 + i / 32 and 1 + (i + 1) / 32, for an i from 0 to 31: equal to the root at the four zeros of
-// Chebyshev's polynomial on that stretch, the coefficients cut at 11 places. A `match`, since an array would be laid out anew at each call.
+// The cubic near the root of an f between 1 + i / 32 and 1 + (i + 1) / 32, for an i from 0 to 31, as `tools/cubics_sqrt.py` writes it.
+// A `match`, since an array would be laid out anew at each call.
 fn cubic_for(i: u64) -> Cubic {
     match i & 31 {
         0 => Cubic(0.31491610218, 0.93029812766, 0.30534427544, 0.06013004587),
@@ -72,8 +78,9 @@ fn cubic_for(i: u64) -> Cubic {
     }
 }
 
-// A candidate for the root of m * 2 ^ odd * 2 ^ 52: a cubic's value, of which some 31 digits are right, is cut to 26 digits, s, whose square is
-// exact, and the rest of the root is (v - s * s) / (s + root). Adding a number of a greater magnitude puts the wanted digits last.
+// A candidate for the root of m * 2 ^ odd * 2 ^ 52, by the root of v = m * 2 ^ odd / 2 ^ 52: a cubic's value is near it, and is cut to 26 digits, s,
+// whose square is exact. What is missing is (v - s * s) / (s + root). The sums with `TO_25` and `TO_52` put the wanted
+// digits at the end of the bits.
 fn candidate(m: u64, odd: u64) -> Halves
     requires { ⌜ (4503599627370496 ≤ m) × (m < 9007199254740992) × (odd < 2) ⌝ }
     ensures { λ r. ⌜ (T (not (isNan (r .rest))) → T (not (isNan (r .cut)))) ⌝ }
@@ -84,13 +91,14 @@ fn candidate(m: u64, odd: u64) -> Halves
     let c = cubic_for(m >> 47);
     let scale = if odd == 0 { 1.0 } else { 1.4142135623730951 };
     let near = (c.0 + c.1 * f - (f * f) * (c.2 - c.3 * f)) * scale;
-    let cut = near + 201326591.99999997;
-    let s = cut - 201326591.99999997;
-    let rest = (v - s * s) / (s + near) + 1.5000000298023224;
+    let cut = near + TO_25;
+    let s = cut - TO_25;
+    let rest = (v - s * s) / (s + near) + TO_52;
     Halves { cut, rest }
 }
 
-// Whether high * 2 ^ 27 + low is nearest to the root of a * 2 ^ 52, as far as the difference in units of 2 ^ 27 can tell.
+// Whether high * 2 ^ 27 + low is nearest to the root of a * 2 ^ 52. The difference of the squares is taken in units of 2 ^ 27, so that a candidate
+// within one unit of the limit may be refused, and none is passed that is not nearest.
 fn is_nearest(a: u64, high: u64, low: u64) -> bool
     requires { ⌜ (a < 18014398509481984) × Pieces high low ⌝ }
     ensures { λ r. ⌜ (r ≡ true → Nearest (a * 4503599627370496) (high * 134217728 + low)) ⌝ }
@@ -139,7 +147,7 @@ fn by_digits(a: u64) -> u64
     if q < r { q + 1 } else { q }
 }
 
-// The whole number nearest to the root of m * 2 ^ odd * 2 ^ 52.
+// The whole number nearest to the root of m * 2 ^ odd * 2 ^ 52: the candidate, or where it fails the test the digits one by one.
 fn nearest(m: u64, odd: u64) -> u64
     requires { ⌜ (4503599627370496 ≤ m) × (m < 9007199254740992) × (odd < 2) ⌝ }
     ensures { λ r. ⌜ Nearest (m * 2 ^ odd * 4503599627370496) r ⌝ }

@@ -1,6 +1,5 @@
 -- `replay_sqrt::main` is safe and ends. The measure is the number of turns that are left. Assumes nothing.
 use borrow.Author.Needs.{needs}
-use native.Mathlib.Omega.{arith}
 use Rattle.replay_sqrt.proofs.main.Statement.{statement}
 use Rattle.replay_sqrt.proofs.main.Tie as tie
 

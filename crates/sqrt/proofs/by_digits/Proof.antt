@@ -1,12 +1,10 @@
 -- `sqrt::by_digits` meets its contract. The invariant: the digits found and those left make up the number, at each turn. Assumes nothing.
-use mathlib.Core.Path.{_≡_, refl, sym, ap, _∙_, subst}
+use mathlib.Core.Path.{_≡_, sym, ap, _∙_, subst}
 use Prim.Native.Nat.{ℕ, suc, _+_, _-_, _*_, _/_, _%_, _^_, _≤_, _<_}
 use native.Mathlib.Nat.{lt-of-lt-of-le, mul-assoc, pow-suc, mod-eq-of-lt, mod-lt, zero-add, mul-comm, mul-one, mul-pos}
 use native.Mathlib.Omega.{arith}
 use lib.Dec.{lit<}
 use lib.Pow.{pow-add, pow-mono}
-use borrow.Author.Needs.{needs}
-use Rattle.sqrt.specs.Nearest.{Nearest, IsDigit}
 use Rattle.sqrt.proofs.Root.{nearest-up, nearest-down}
 use Rattle.sqrt.proofs.by_digits.Statement.{statement}
 use Rattle.sqrt.proofs.by_digits.Tie as tie

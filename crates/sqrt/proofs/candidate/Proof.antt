@@ -1,6 +1,6 @@
 -- `sqrt::candidate` meets its contract: its pattern is no NaN's, and a NaN stays one. Assumes nothing.
-use mathlib.Core.Path.{_≡_, sym, subst}
-use Prim.Native.Nat.{ℕ, _+_, _*_, _^_, _≤_}
+use mathlib.Core.Path.{sym, subst}
+use Prim.Native.Nat.{ℕ, _*_, _^_, _≤_}
 use native.Mathlib.Omega.{arith}
 use mathlib.Core.Bool.{Bool, not}
 use lib.Dec.{T}

@@ -3,7 +3,7 @@ use mathlib.Core.Path.{_≡_, sym, subst}
 use Prim.Native.Nat.{ℕ, _+_, _*_, _%_, _^_, _≤_, _<_}
 use native.Mathlib.Nat.{lt-of-lt-of-le}
 use native.Mathlib.Omega.{arith}
-use mathlib.Core.Bool.{Bool, true, false, not, false≢true}
+use mathlib.Core.Bool.{true, not, false≢true}
 use lib.Dec.{T, lit≤, lit<}
 use lib.Bits.{bitAnd, mask-lt}
 use lib.Ieee.{Float, nan, inf, fin, binary64, eq, isNan, toBits}

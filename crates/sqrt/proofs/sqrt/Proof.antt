@@ -1,13 +1,13 @@
 -- `sqrt::sqrt` meets its contract. Each arm is a fact of `Fields` on the three fields. Assumes nothing.
-use mathlib.Core.Path.{_≡_, refl, sym, ap, _∙_, subst}
-use Prim.Native.Nat.{ℕ, _+_, _-_, _*_, _/_, _%_, _^_, _≤_, _<_}
+use mathlib.Core.Path.{_≡_, sym, ap, _∙_, subst}
+use Prim.Native.Nat.{ℕ, _/_, _%_, _^_, _≤_, _<_}
 use native.Mathlib.Omega.{arith}
 use mathlib.Core.Bool.{Bool, true, false}
 use lib.Dec.{T, leb, le→leb}
 use lib.Arith.{lt→nleb}
 use lib.Pow.{field}
 use lib.Bits.{bitAnd, and-mask}
-use lib.Ieee.{Float, nan, binary64, toBits, ofBits, fits, div}
+use lib.Ieee.{Float, binary64, toBits, ofBits, fits, div}
 use lib.Ieee.Bits.{ofBits-toBits, toBits-lt, is-true, is-false}
 use Rattle.sqrt.specs.Sqrt.{sqrtOf, roundRoot}
 use Rattle.number.proofs.Sign.{is-nan, no-nan}
