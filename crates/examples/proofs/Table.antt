@@ -1,12 +1,16 @@
 -- The charted examples hold, each by evaluation of the definitions. Assumes nothing.
 use mathlib.Core.Path.{refl}
-use Rattle.examples.specs.Table.{Table}
+use lib.Ieee.{toBits, ofBits}
+use Rattle.sqrt.specs.Sqrt.{sqrtOf}
 use Rattle.solve.proofs.Computing.{computing}
+use Rattle.examples.specs.Table.{Table}
 
 pub table : Table
-unfolding computing
+unfolding computing sqrtOf toBits ofBits
 table =
     record {
+      row3 = refl;
+      row4 = refl;
       row5 = (refl, λ right. refl);
       row6 = (refl, λ right. refl);
     }

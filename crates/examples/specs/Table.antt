@@ -1,8 +1,12 @@
 -- The rows of the paper's charted examples marked (P), each a field whose comment is the paper's sentence. Definitions only.
 use mathlib.Core.Path.{_≡_}
 use mathlib.Core.List.{List, [], _∷_}
-use lib.Ieee.{Float}
+use Prim.Native.Nat.{ℕ, _-_}
+use mathlib.Core.Bool.{false}
+use lib.IntN.{negsuc}
+use lib.Ieee.{Float, fin, binary64, toBits}
 use Rattle.number.specs.Operators.{bits}
+use Rattle.sqrt.specs.Sqrt.{sqrtOf}
 use Rattle.solve.specs.Solve.{solve2Of, solve3Of}
 use Rattle.solve.specs.declared.Solved2.the-variants as solved2
 use Rattle.solve.specs.declared.Solved3.the-variants as solved3
@@ -27,11 +31,19 @@ abbrev pub 1e-12 : Float
 abbrev pub 4e-12 : Float
 4e-12 = bits 0x3d91_9799_812d_ea11
 
+-- 2 ^ -e, as the logic writes it, for an e above 0
+abbrev pub over2 : ℕ → Float
+over2 e = fin false 1 (negsuc (e - 1))
+
 -- the matrix with this diagonal
 abbrev pub diagonal : Float → Float → Float → List (List Float)
 diagonal a b c = (a ∷ zero ∷ zero ∷ []) ∷ (zero ∷ b ∷ zero ∷ []) ∷ (zero ∷ zero ∷ c ∷ []) ∷ []
 
 pub record Table : Type 0 where
+  -- "Square root of 2: bits hexadecimal 3ff6a09e667f3bcd."
+  pub row3 : toBits binary64 (sqrtOf two) ≡ 0x3ff6a09e667f3bcd
+  -- "Square root of 2^-1074: 2^-537."
+  pub row4 : sqrtOf (over2 1074) ≡ over2 537
   -- "`solve_2x2` of rows (2,0), (0,4), right side (2,4): (1,1). Rows (1,1), (1,1): gives up." ("tol is 1e-12 throughout")
   pub row5 :
       (solve2Of ((two ∷ zero ∷ []) ∷ (zero ∷ four ∷ []) ∷ []) (two ∷ four ∷ []) 1e-12 ≡ solved2.Solution (record { x0 = one; x1 = one }))

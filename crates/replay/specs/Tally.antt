@@ -1,5 +1,5 @@
 -- What a replay counts. Definitions only.
-use Prim.Native.Nat.{ℕ, _+_, _%_, _^_}
+use Prim.Native.Nat.{_+_, _%_, _^_}
 use mathlib.Core.Bool.{Bool, true, false}
 use lib.Dec.{eqb}
 use Rattle.loops.specs.Loop.{pick}

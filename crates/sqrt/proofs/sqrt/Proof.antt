@@ -1,0 +1,106 @@
+-- `sqrt::sqrt` meets its contract. Each arm is a fact of `Fields` on the three fields. Assumes nothing.
+use mathlib.Core.Path.{_≡_, sym, ap, _∙_, subst}
+use Prim.Native.Nat.{ℕ, _/_, _%_, _^_, _≤_, _<_}
+use native.Mathlib.Omega.{arith}
+use mathlib.Core.Bool.{Bool, true, false}
+use lib.Dec.{T, leb, le→leb}
+use lib.Arith.{lt→nleb}
+use lib.Pow.{field}
+use lib.Bits.{bitAnd, and-mask}
+use lib.Ieee.{Float, binary64, toBits, ofBits, fits, div}
+use lib.Ieee.Bits.{ofBits-toBits, toBits-lt, is-true, is-false}
+use Rattle.sqrt.specs.Sqrt.{sqrtOf, roundRoot}
+use Rattle.number.proofs.Sign.{is-nan, no-nan}
+use Rattle.number.proofs.Values.{bits-is}
+use Rattle.sqrt.proofs.Fields.{at, zero-field, positive, infinite, negative}
+use Rattle.sqrt.proofs.sqrt.Statement.{statement}
+use Rattle.sqrt.proofs.sqrt.Tie as tie
+
+-- x, no NaN, and the fields of its pattern
+module _ (c : tie.Else1) where
+  abbrev x : Float
+  x = c .before .args .x
+
+  abbrev b : ℕ
+  b = toBits binary64 x
+
+  held : T (fits binary64 x)
+  held = subst T (sym (c .before .good .0 .1)) tt
+
+  in-64 : b < 2 ^ 64
+  in-64 = toBits-lt binary64 x held
+
+  exponent : bitAnd (b / 2 ^ 52) 2047 ≡ b % 2 ^ 63 / 2 ^ 52
+  exponent = and-mask (b / 2 ^ 52) 11 ∙ sym (field b 11 52)
+
+  fraction : bitAnd b 4503599627370495 ≡ b % 2 ^ 52
+  fraction = and-mask b 52
+
+  exp-le : bitAnd (b / 2 ^ 52) 2047 ≤ 2047
+  exp-le = omega (arith, and-mask (b / 2 ^ 52) 11)
+
+  is : x ≡ at (leb (2 ^ 63) b) (bitAnd (b / 2 ^ 52) 2047) (bitAnd b 4503599627370495)
+  is = sym (ofBits-toBits binary64 x held) ∙ bits-is b ∙ ap (λ (k : ℕ). at (leb (2 ^ 63) b) k (b % 2 ^ 52)) (sym exponent) ∙ ap (λ (k : ℕ). at (leb (2 ^ 63) b) (bitAnd (b / 2 ^ 52) 2047) k) (sym fraction)
+
+  is-neg : b / 2 ^ 63 ≡ 1 → x ≡ at true (bitAnd (b / 2 ^ 52) 2047) (bitAnd b 4503599627370495)
+  is-neg h = is ∙ ap (λ (s : Bool). at s (bitAnd (b / 2 ^ 52) 2047) (bitAnd b 4503599627370495)) (is-true (leb (2 ^ 63) b) (le→leb (2 ^ 63) b (omega arith)))
+
+  is-pos : (b / 2 ^ 63 ≡ 1 → ⊥) → x ≡ at false (bitAnd (b / 2 ^ 52) 2047) (bitAnd b 4503599627370495)
+  is-pos h = is ∙ ap (λ (s : Bool). at s (bitAnd (b / 2 ^ 52) 2047) (bitAnd b 4503599627370495)) (is-false (leb (2 ^ 63) b) (lt→nleb (2 ^ 63) b (omega (arith, in-64))))
+
+float-to-bits-bits : tie.Need-float-to-bits-bits
+float-to-bits-bits c = no-nan (c .before .args .x) (c .if1 .left)
+
+add-if2 : tie.Need-add-if2
+add-if2 c = omega (arith, exp-le c, fraction c)
+
+scaled-requires : tie.Need-scaled-requires
+scaled-requires c κs = let t = c .before .before .before in omega (arith, c .if4 .left, c .before .before .if2 .left, fraction t, exp-le t)
+
+root-of-requires : tie.Need-root-of-requires
+root-of-requires c κs = let s = c .scaled .ensures in (s .lo, s .hi, s .top)
+
+-- a NaN
+returns : tie.Need-returns
+unfolding sqrtOf
+returns c = let e = is-nan (c .before .args .x) (c .if1 .taken) in e ∙ sym (ap sqrtOf e)
+
+-- a zero
+returns-2 : tie.Need-returns-2
+returns-2 c =
+    let t = c .before in
+    let s = leb (2 ^ 63) (b t) in
+    let k = bitAnd (b t / 2 ^ 52) 2047 in
+    let f = bitAnd (b t) 4503599627370495 in
+    let z : (k ≡ 0) × (f ≡ 0) = (omega (arith, c .if2 .taken), omega (arith, c .if2 .taken)) in
+    let e : x t ≡ at s 0 0 = is t ∙ ap (λ (y : ℕ). at s y f) (z .0) ∙ ap (λ (y : ℕ). at s 0 y) (z .1) in
+    e ∙ sym (zero-field s) ∙ sym (ap sqrtOf e)
+
+-- negative
+returns-3 : tie.Need-returns-3
+unfolding ofBits div
+returns-3 c =
+    let t = c .before .before in
+    sym (ap sqrtOf (is-neg t (c .if3 .taken)) ∙ negative (bitAnd (b t / 2 ^ 52) 2047) (bitAnd (b t) 4503599627370495) (exp-le t) (omega (arith, c .before .if2 .left)))
+
+-- the infinity
+returns-4 : tie.Need-returns-4
+returns-4 c =
+    let t = c .before .before .before in
+    let f = bitAnd (b t) 4503599627370495 in
+    let e : x t ≡ at false 2047 f = is-pos t (c .before .if3 .left) ∙ ap (λ (k : ℕ). at false k f) (c .if4 .taken) in
+    e ∙ sym (infinite f) ∙ sym (ap sqrtOf e)
+
+-- finite, and above zero
+returns-5 : tie.Need-returns-5
+returns-5 c =
+    let s = c .before .before in
+    let t = s .before .before .before in
+    let f = bitAnd (b t) 4503599627370495 in
+    let k = bitAnd (b t / 2 ^ 52) 2047 in
+    c .root-of .ensures
+    ∙ ap roundRoot (c .before .scaled .ensures .is)
+    ∙ sym (ap sqrtOf (is-pos t (s .before .if3 .left)) ∙ positive k f (omega (arith, exp-le t, s .if4 .left)) (omega (arith, s .before .before .if2 .left)))
+
+pub sqrt-spec : {M : Type 1} → statement M
+sqrt-spec = tie.close (tie.spec returns float-to-bits-bits add-if2 scaled-requires root-of-requires returns-2 returns-3 returns-4 returns-5)
