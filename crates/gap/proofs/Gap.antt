@@ -1,0 +1,236 @@
+-- The computed gap of two points: it does not depend on their order, and where it is at most c, for a c from 2 ^ -40 on, the exact squared gap is at most
+-- c * c * (1 + 2 ^ -50). Assumes nothing.
+use mathlib.Core.Path.{_≡_, refl, sym, ap, _∙_, subst}
+use mathlib.Core.Logic.{_⊎_, inl, inr}
+use Prim.Native.Nat.{ℕ, _+_, _-_, _*_, _^_, _≤_, _<_}
+use native.Mathlib.Nat.{le-trans, le-of-eq, le-add-right, not-le-of-lt, mul-pos, le-of-mul-le-mul-right}
+use native.Mathlib.Omega.{arith}
+use mathlib.Core.Bool.{Bool, true, false, not, _&&_}
+use lib.IntN.{natAbs, _-ℤ_}
+use lib.Dec.{T, lit≤, lit<}
+use lib.Pow.{pow-pos}
+use lib.Ieee.{Float, nan, inf, fin, binary64, unlike, round, sum, add, sub, mul, le, ofBits, fits}
+use lib.Ieee.Fits.{add-fits, sub-fits, mul-fits, and-l, and-r}
+use lib.Ieee.Scale.{grid, finite}
+use Rattle.number.specs.Operators.{bits, _⊕_, _⊖_, _⊗_, _≤?_}
+use Rattle.number.specs.Units.{unit, mag, neg?, inUnits}
+use Rattle.number.proofs.Values.{Is, is-own, whole, round-is-grid, sum-mag, add-is, sub-is, mul-is, apart}
+use Rattle.number.proofs.Rounding.{error, error-whole}
+use Rattle.number.proofs.Finite.{add-finite, sub-finite, mul-finite}
+use Rattle.number.proofs.Symmetry.{square-swap}
+use Rattle.number.proofs.Sums.{apart-is}
+use Rattle.number.proofs.Order.{le→units, le-through}
+use Rattle.sqrt.specs.Sqrt.{sqrtOf}
+use Rattle.sqrt.proofs.Laws.{UnderRoot, sqrt-le-finite, sqrt-rooted, sqrt-sign, sqrt-fits}
+use Rattle.geometry.specs.declared.point.Point3D.{Point3D}
+use Rattle.geometry.specs.declared.tolerance.Tolerance.{Tolerance}
+use Rattle.geometry.specs.Tolerance.{leastConfusion, one, toleranceFit}
+use Rattle.geometry.specs.Vector.{squareMagnitudeOf, magnitudeOf}
+use Rattle.geometry.specs.Point.{distanceOf, fromOf, squareOf, exactSquare}
+use Rattle.gap.proofs.Chain.{chain, final}
+
+-- ---- the order of the two points
+
+squares : Float → Float → Float → Float
+squares x y z = x ⊗ x ⊕ y ⊗ y ⊕ z ⊗ z
+
+squares-swap : (ax ay az bx by bz : Float) → squares (bx ⊖ ax) (by ⊖ ay) (bz ⊖ az) ≡ squares (ax ⊖ bx) (ay ⊖ by) (az ⊖ bz)
+unfolding squares
+squares-swap ax ay az bx by bz =
+    ap (λ (k : Float). k ⊕ (by ⊖ ay) ⊗ (by ⊖ ay) ⊕ (bz ⊖ az) ⊗ (bz ⊖ az)) (square-swap ax bx)
+    ∙ ap (λ (k : Float). (ax ⊖ bx) ⊗ (ax ⊖ bx) ⊕ k ⊕ (bz ⊖ az) ⊗ (bz ⊖ az)) (square-swap ay by)
+    ∙ ap (λ (k : Float). (ax ⊖ bx) ⊗ (ax ⊖ bx) ⊕ (ay ⊖ by) ⊗ (ay ⊖ by) ⊕ k) (square-swap az bz)
+
+pub distance-swap : (p q : Point3D) → distanceOf p q ≡ distanceOf q p
+unfolding distanceOf squares
+distance-swap p q = ap sqrtOf (squares-swap (p .x) (p .y) (p .z) (q .x) (q .y) (q .z))
+
+-- the magnitude of the difference of two points is their gap
+pub magnitude-is-gap : (p q : Point3D) → magnitudeOf (fromOf p q) ≡ distanceOf p q
+unfolding magnitudeOf squareMagnitudeOf fromOf distanceOf squares
+magnitude-is-gap p q = ap sqrtOf (sym (squares-swap (p .x) (p .y) (p .z) (q .x) (q .y) (q .z)))
+
+-- ---- one coordinate
+
+abbrev between : Float → Float → ℕ
+between x y = apart (neg? x) (mag x) (neg? y) (mag y)
+
+-- the exact difference is one part in 2 ^ 53 or less above the computed one
+difference-over : (x y : Float) → T (fits binary64 x) → T (fits binary64 y) → T (finite (x ⊖ y)) → between x y * (2 ^ 53 - 1) ≤ mag (x ⊖ y) * 2 ^ 53
+difference-over x y fx fy h =
+    let f = sub-finite x y h in
+    let e = sub-is x y (neg? x) (neg? y) (mag x) (mag y) (whole x fx (f .0)) (whole y fy (f .1)) in
+    let m : mag (x ⊖ y) ≡ grid binary64 (between x y) unit = ap mag e ∙ sum-mag (neg? x) (neg? y) (mag x) (mag y) (subst (λ (v : Float). T (finite v)) e h) in
+    subst (λ (k : ℕ). between x y * (2 ^ 53 - 1) ≤ k * 2 ^ 53) (sym m) (less (between x y) (grid binary64 (between x y) unit) (error-whole (between x y) unit (pow-pos 1074) .1))
+  where
+    less : (d g : ℕ) → d * 2 ^ 53 ≤ g * 2 ^ 53 + d → d * (2 ^ 53 - 1) ≤ g * 2 ^ 53
+    less d g h = omega arith
+
+unlike-self : (s : Bool) → unlike s s ≡ false
+unlike-self true = refl
+unlike-self false = refl
+
+-- a computed square is not negative, and the exact one is not much above it
+square-over : (x : Float) → T (fits binary64 x) → T (finite (x ⊗ x))
+    → (Is (x ⊗ x) false (mag (x ⊗ x))) × (mag x * mag x * (2 ^ 53 - 1) ≤ mag (x ⊗ x) * unit * 2 ^ 53 + unit * 2 ^ 52)
+square-over x fx h =
+    let v = whole x fx (mul-finite x x h .0) in
+    let e = mul-is x x (neg? x) (neg? x) (mag x) (mag x) v v ∙ ap (λ (s : Bool). round binary64 s (mag x * mag x) (unit * unit)) (unlike-self (neg? x)) in
+    let i = round-is-grid false (mag x * mag x) (unit * unit) (subst (λ (y : Float). T (finite y)) e h) in
+    let g = grid binary64 (mag x * mag x) (unit * unit) in
+    let m : mag (x ⊗ x) ≡ g = ap mag e ∙ is-own (round binary64 false (mag x * mag x) (unit * unit)) false g i .1 in (
+      subst (λ (k : ℕ). Is (x ⊗ x) false k) (sym m) (subst (λ (y : Float). Is y false g) (sym e) i),
+      subst (λ (k : ℕ). mag x * mag x * (2 ^ 53 - 1) ≤ k * unit * 2 ^ 53 + unit * 2 ^ 52) (sym m)
+          (less (mag x * mag x) g unit (pow-pos 1074) (error (mag x * mag x * unit) (unit * unit) (mul-pos (pow-pos 1074) (pow-pos 1074)) .1)),
+    )
+  where
+    less : (d g l : ℕ) → 0 < l → d * l * 2 ^ 53 ≤ g * (l * l) * 2 ^ 53 + (d * l + l * l * 2 ^ 52) → d * (2 ^ 53 - 1) ≤ g * l * 2 ^ 53 + l * 2 ^ 52
+    less d g l L h = le-of-mul-le-mul-right {k = l} (omega arith) L
+
+-- a computed sum of two that are not negative
+sum-over : (x y : Float) (a b : ℕ) → Is x false a → Is y false b → T (finite (x ⊕ y))
+    → (Is (x ⊕ y) false (mag (x ⊕ y))) × ((a + b) * (2 ^ 53 - 1) ≤ mag (x ⊕ y) * 2 ^ 53)
+unfolding sum
+sum-over x y a b p q h =
+    let e : x ⊕ y ≡ round binary64 false (a + b) unit = add-is x y false false a b p q in
+    let i = round-is-grid false (a + b) unit (subst (λ (v : Float). T (finite v)) e h) in
+    let g = grid binary64 (a + b) unit in
+    let m : mag (x ⊕ y) ≡ g = ap mag e ∙ is-own (round binary64 false (a + b) unit) false g i .1 in (
+      subst (λ (k : ℕ). Is (x ⊕ y) false k) (sym m) (subst (λ (v : Float). Is v false g) (sym e) i),
+      subst (λ (k : ℕ). (a + b) * (2 ^ 53 - 1) ≤ k * 2 ^ 53) (sym m) (less (a + b) g (error-whole (a + b) unit (pow-pos 1074) .1)),
+    )
+  where
+    less : (d g : ℕ) → d * 2 ^ 53 ≤ g * 2 ^ 53 + d → d * (2 ^ 53 - 1) ≤ g * 2 ^ 53
+    less d g h = omega arith
+
+-- ---- the law on six coordinates
+
+not-neg : (x : Float) (a : ℕ) → Is x false a → neg? x ≡ false
+not-neg x a v = is-own x false a v .0
+
+eighth : (E C : ℕ) → E * 2 ^ 53 ≤ C * (2 ^ 53 + 8) → 2 ^ 50 * E ≤ (2 ^ 50 + 1) * C
+eighth E C h = omega arith
+
+module _ (ax ay az bx by bz c : Float) (hc : T (finite c)) (l : T (sqrtOf (squares (ax ⊖ bx) (ay ⊖ by) (az ⊖ bz)) ≤? c)) where
+  abbrev dx : Float
+  dx = ax ⊖ bx
+
+  abbrev dy : Float
+  dy = ay ⊖ by
+
+  abbrev dz : Float
+  dz = az ⊖ bz
+
+  abbrev s1 : Float
+  s1 = dx ⊗ dx ⊕ dy ⊗ dy
+
+  abbrev s : Float
+  s = s1 ⊕ dz ⊗ dz
+
+  under : UnderRoot s
+  unfolding squares
+  under = sqrt-le-finite s c hc l
+
+  last-two : T (finite s1) × T (finite (dz ⊗ dz))
+  last-two = add-finite s1 (dz ⊗ dz) (under .finite-x)
+
+  first-two : T (finite (dx ⊗ dx)) × T (finite (dy ⊗ dy))
+  first-two = add-finite (dx ⊗ dx) (dy ⊗ dy) (last-two .0)
+
+  -- each difference, and so each coordinate, is finite
+  finite-x : T (finite ax) × T (finite bx)
+  finite-x = sub-finite ax bx (mul-finite dx dx (first-two .0) .0)
+
+  finite-y : T (finite ay) × T (finite by)
+  finite-y = sub-finite ay by (mul-finite dy dy (first-two .1) .0)
+
+  finite-z : T (finite az) × T (finite bz)
+  finite-z = sub-finite az bz (mul-finite dz dz (last-two .1) .0)
+
+  module _ (fax : T (fits binary64 ax)) (fay : T (fits binary64 ay)) (faz : T (fits binary64 az)) (fbx : T (fits binary64 bx)) (fby : T (fits binary64 by)) (fbz : T (fits binary64 bz)) (fc : T (fits binary64 c)) (nc : neg? c ≡ false) (big : 2 ^ 1034 ≤ mag c) where
+    law : 2 ^ 50 * (squareOf (between ax bx) + squareOf (between ay by) + squareOf (between az bz)) ≤ (2 ^ 50 + 1) * (mag c * mag c)
+    unfolding squares
+    law =
+        let px = square-over dx (sub-fits binary64 ax bx) (first-two .0) in
+        let py = square-over dy (sub-fits binary64 ay by) (first-two .1) in
+        let pz = square-over dz (sub-fits binary64 az bz) (last-two .1) in
+        let e1 = sum-over (dx ⊗ dx) (dy ⊗ dy) (mag (dx ⊗ dx)) (mag (dy ⊗ dy)) (px .0) (py .0) (last-two .0) in
+        let e2 = sum-over s1 (dz ⊗ dz) (mag s1) (mag (dz ⊗ dz)) (e1 .0) (pz .0) (under .finite-x) in
+        let ns = not-neg s (mag s) (e2 .0) in
+        let fs = add-fits binary64 s1 (dz ⊗ dz) in
+        let g = sqrt-rooted s fs (under .finite-x) ns in
+        let vg : Is (sqrtOf s) false (mag (sqrtOf s)) = subst (λ (t : Bool). Is (sqrtOf s) t (mag (sqrtOf s))) (sqrt-sign s fs (under .finite-x) ns) (whole (sqrtOf s) (sqrt-fits s fs) (under .finite-root)) in
+        let v : Is c false (mag c) = subst (λ (t : Bool). Is c t (mag c)) nc (whole c fc hc) in
+        let total = squareOf (between ax bx) + squareOf (between ay by) + squareOf (between az bz) in
+        eighth total (mag c * mag c)
+        (final total (mag c) big
+        (chain (between ax bx) (between ay by) (between az bz) (mag dx) (mag dy) (mag dz) (mag (dx ⊗ dx)) (mag (dy ⊗ dy)) (mag (dz ⊗ dz)) (mag s1) (mag s) (mag (sqrtOf s)) (mag c) (2 ^ 53) (2 ^ 53 - 1) unit (2 ^ 52)
+        (lit≤ tt)
+        (difference-over ax bx fax fbx (mul-finite dx dx (first-two .0) .0)) (difference-over ay by fay fby (mul-finite dy dy (first-two .1) .0)) (difference-over az bz faz fbz (mul-finite dz dz (last-two .1) .0))
+        (px .1) (py .1) (pz .1) (e1 .1) (e2 .1) (g .over) (le→units (sqrtOf s) c false false (mag (sqrtOf s)) (mag c) vg v l)))
+
+-- ---- for two points
+
+-- the coordinates fit binary64, as those of every point of a program do
+pub record PointFits (p : Point3D) : Type 0 where
+  pub x-fits : T (fits binary64 (p .x))
+  pub y-fits : T (fits binary64 (p .y))
+  pub z-fits : T (fits binary64 (p .z))
+
+pub record PointFinite (p : Point3D) : Type 0 where
+  pub x-finite : T (finite (p .x))
+  pub y-finite : T (finite (p .y))
+  pub z-finite : T (finite (p .z))
+
+exact-is : (p q : Point3D) → exactSquare p q ≡ squareOf (between (p .x) (q .x)) + squareOf (between (p .y) (q .y)) + squareOf (between (p .z) (q .z))
+unfolding exactSquare
+exact-is p q =
+    ap (λ (k : ℕ). squareOf k + squareOf (natAbs (inUnits (p .y) -ℤ inUnits (q .y))) + squareOf (natAbs (inUnits (p .z) -ℤ inUnits (q .z)))) (apart-is (neg? (p .x)) (neg? (q .x)) (mag (p .x)) (mag (q .x)))
+    ∙ ap (λ (k : ℕ). squareOf (between (p .x) (q .x)) + squareOf k + squareOf (natAbs (inUnits (p .z) -ℤ inUnits (q .z)))) (apart-is (neg? (p .y)) (neg? (q .y)) (mag (p .y)) (mag (q .y)))
+    ∙ ap (λ (k : ℕ). squareOf (between (p .x) (q .x)) + squareOf (between (p .y) (q .y)) + squareOf k) (apart-is (neg? (p .z)) (neg? (q .z)) (mag (p .z)) (mag (q .z)))
+
+turned : (p q : Point3D) (c : Float) → T (distanceOf p q ≤? c) → T (sqrtOf (squares (p .x ⊖ q .x) (p .y ⊖ q .y) (p .z ⊖ q .z)) ≤? c)
+unfolding distanceOf squares
+turned p q c l = subst (λ (k : Float). T (k ≤? c)) (distance-swap p q) l
+
+-- Where the computed gap is at most a finite number, all six coordinates are finite.
+pub gap-finite : (p q : Point3D) (c : Float) → T (finite c) → T (distanceOf p q ≤? c) → PointFinite p × PointFinite q
+gap-finite p q c h l =
+    let t = turned p q c l in
+    let x = finite-x (p .x) (p .y) (p .z) (q .x) (q .y) (q .z) c h t in
+    let y = finite-y (p .x) (p .y) (p .z) (q .x) (q .y) (q .z) c h t in
+    let z = finite-z (p .x) (p .y) (p .z) (q .x) (q .y) (q .z) c h t in
+    (record { x-finite = x .0; y-finite = y .0; z-finite = z .0 }, record { x-finite = x .1; y-finite = y .1; z-finite = z .1 })
+
+-- a number between 2 ^ -40 and 1 is finite, and 2 ^ 1034 units at least
+pub finite-between : (c : Float) → T (leastConfusion ≤? c) → T (c ≤? one) → T (finite c)
+finite-between nan a b = unfold le in absurd b
+finite-between (inf true) a b = unfold ofBits le in absurd a
+finite-between (inf false) a b = unfold ofBits le in absurd b
+finite-between (fin t m e) a b = tt
+
+least-is : Is leastConfusion false (2 ^ 1034)
+unfolding ofBits
+least-is = (refl, refl)
+
+pub large : (c : Float) (t : Bool) → Is c t (mag c) → T (leastConfusion ≤? c) → (t ≡ false) × (2 ^ 1034 ≤ mag c)
+large c false v low = (refl, le→units leastConfusion c false false (2 ^ 1034) (mag c) least-is v low)
+large c true v low = absurd (not-le-of-lt (pow-pos 1034) (le-trans (le-add-right (2 ^ 1034) (mag c)) (le-of-eq (le→units leastConfusion c false true (2 ^ 1034) (mag c) least-is v low))))
+
+-- THE EXACT-GAP THEOREM. Take any two points with coordinates of binary64, and any c from 2 ^ -40 to 1. If the gap that the computer works out is at most c,
+-- then 2 ^ 50 times the exact squared gap is at most 2 ^ 50 + 1 times c squared, all as whole numbers of units of 2 ^ -1074 (squared):
+-- however the nine roundings fall, the true gap exceeds c by less than one part in 2 ^ 51.
+pub exact-gap : (p q : Point3D) (c : Float) → PointFits p → PointFits q → T (fits binary64 c) → T (leastConfusion ≤? c) → T (c ≤? one) → T (distanceOf p q ≤? c)
+    → 2 ^ 50 * exactSquare p q ≤ (2 ^ 50 + 1) * (mag c * mag c)
+exact-gap p q c fp fq fc low high l =
+    let h = finite-between c low high in
+    let b = large c (neg? c) (whole c fc h) low in
+    subst (λ (k : ℕ). 2 ^ 50 * k ≤ (2 ^ 50 + 1) * (mag c * mag c)) (sym (exact-is p q))
+    (law (p .x) (p .y) (p .z) (q .x) (q .y) (q .z) c h (turned p q c l) (fp .x-fits) (fp .y-fits) (fp .z-fits) (fq .x-fits) (fq .y-fits) (fq .z-fits) fc (b .0) (b .1))
+
+-- ---- refusal 5, taken apart
+pub fit-tolerance : (t : Tolerance) → T (toleranceFit t) → T (leastConfusion ≤? t .confusion) × T (t .confusion ≤? one)
+unfolding toleranceFit
+fit-tolerance t h =
+    let rest = and-r (leastConfusion ≤? t .confusion) (t .confusion ≤? one && (bits 0 ≤? t .angular && t .angular ≤? one)) h in
+    (and-l (leastConfusion ≤? t .confusion) (t .confusion ≤? one && (bits 0 ≤? t .angular && t .angular ≤? one)) h, and-l (t .confusion ≤? one) (bits 0 ≤? t .angular && t .angular ≤? one) rest)

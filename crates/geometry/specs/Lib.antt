@@ -1,0 +1,4 @@
+pub mod Tolerance
+pub mod Vector
+pub mod Point
+pub mod Frame

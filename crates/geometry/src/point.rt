@@ -1,0 +1,49 @@
+use crate::vector::Vector3D;
+ghost use mathlib.Core.Path.{_≡_};
+ghost use Rattle.geometry.specs.Point.{pointOf, distanceOf, addVectorOf, fromOf};
+
+pub struct Point3D {
+    pub x: f64,
+    pub y: f64,
+    pub z: f64,
+}
+
+impl Point3D {
+    pub fn new(x: f64, y: f64, z: f64) -> Point3D
+        ensures { λ r. ⌜ r ≡ pointOf x y z ⌝ }
+    {
+        Point3D { x, y, z }
+    }
+
+    // The computed gap or chord of two points.
+    pub fn distance(self, other: Point3D) -> f64
+        ensures { λ r. ⌜ r ≡ distanceOf self other ⌝ }
+    {
+        let dx = other.x - self.x;
+        let dy = other.y - self.y;
+        let dz = other.z - self.z;
+        sqrt::sqrt(dx * dx + dy * dy + dz * dz)
+    }
+
+    // Point + vector.
+    pub fn add(self, vector: Vector3D) -> Point3D
+        ensures { λ r. ⌜ r ≡ addVectorOf self vector ⌝ }
+    {
+        Point3D {
+            x: self.x + vector.x,
+            y: self.y + vector.y,
+            z: self.z + vector.z,
+        }
+    }
+
+    // Point - point.
+    pub fn sub(self, other: Point3D) -> Vector3D
+        ensures { λ r. ⌜ r ≡ fromOf self other ⌝ }
+    {
+        Vector3D {
+            x: self.x - other.x,
+            y: self.y - other.y,
+            z: self.z - other.z,
+        }
+    }
+}

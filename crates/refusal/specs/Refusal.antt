@@ -1,0 +1,48 @@
+-- The numbers of document 01's refusals ("A refusal is its number alone; 13 to 16 add the index of the point"). Definitions only.
+use Prim.Native.Nat.{ℕ}
+use Rattle.refusal.specs.declared.Refusal.{Refusal}
+use Rattle.refusal.specs.declared.Refusal.the-variants.{Number, Size, Window, TurnMark, Tolerance, Parameter, StepCap, Lent, NoMeeting, NoDirection, TooShort, Claim, NotOwnPoint, OutsideWindow, Gap, Chord, BoxNumber, Coordinate, JobFile}
+
+-- "Who can cause a refusal", in its order
+abbrev pub numberOf : Refusal → ℕ
+numberOf Number = 1
+numberOf Size = 2
+numberOf Window = 3
+numberOf TurnMark = 4
+numberOf Tolerance = 5
+numberOf Parameter = 6
+numberOf StepCap = 7
+numberOf Lent = 8
+numberOf NoMeeting = 9
+numberOf NoDirection = 10
+numberOf TooShort = 11
+numberOf Claim = 12
+numberOf (NotOwnPoint i) = 13
+numberOf (OutsideWindow i) = 14
+numberOf (Gap i) = 15
+numberOf (Chord i) = 16
+numberOf BoxNumber = 17
+numberOf Coordinate = 18
+numberOf JobFile = 19
+
+-- the index of the point, from 0, that 13 to 16 add
+abbrev pub indexOf : Refusal → ℕ
+indexOf Number = 0
+indexOf Size = 0
+indexOf Window = 0
+indexOf TurnMark = 0
+indexOf Tolerance = 0
+indexOf Parameter = 0
+indexOf StepCap = 0
+indexOf Lent = 0
+indexOf NoMeeting = 0
+indexOf NoDirection = 0
+indexOf TooShort = 0
+indexOf Claim = 0
+indexOf (NotOwnPoint i) = i
+indexOf (OutsideWindow i) = i
+indexOf (Gap i) = i
+indexOf (Chord i) = i
+indexOf BoxNumber = 0
+indexOf Coordinate = 0
+indexOf JobFile = 0
