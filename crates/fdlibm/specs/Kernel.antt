@@ -1,0 +1,57 @@
+-- The sine and the cosine of an angle of at most about pi/4: k_sin.c and k_cos.c of fdlibm 5.3. Definitions only.
+use Prim.Native.Nat.{ℕ, _-_, _*_, _^_}
+use mathlib.Core.Bool.{Bool}
+use lib.Dec.{ltb}
+use lib.Ieee.{Float}
+use Rattle.loops.specs.Loop.{pick}
+use Rattle.number.specs.Operators.{_⊕_, _⊖_, _⊗_, bits}
+use Rattle.fdlibm.specs.Words.{ixOf}
+
+abbrev pub one : Float
+one = bits 0x3ff0000000000000
+
+abbrev pub half : Float
+half = bits 0x3fe0000000000000
+
+abbrev pub S1 : Float
+S1 = bits 0xbfc5555555555549
+
+-- r = S2 + z*(S3 + z*(S4 + z*(S5 + z*S6)))
+abbrev pub sinSeries : Float → Float
+sinSeries z =
+    bits 0x3f8111111110f8a6
+    ⊕ z
+    ⊗ (bits 0xbf2a01a019c161d5
+    ⊕ z ⊗ (bits 0x3ec71de357b1fe7d ⊕ z ⊗ (bits 0xbe5ae5e68a2b9ceb ⊕ z ⊗ bits 0x3de5d93a5acfd57c)))
+
+-- __kernel_sin(x, y, iy): the sine of x + y; tail is iy != 0, and without it y is not read. `(int)x == 0` is true of the small x
+unfoldable pub kernelSin : Float → Float → Bool → Float
+kernelSin x y tail =
+    let z = x ⊗ x in
+    let v = z ⊗ x in
+    let r = sinSeries z in
+    pick (ltb (ixOf x) 0x3e400000) x (pick tail (x ⊖ (z ⊗ (half ⊗ y ⊖ v ⊗ r) ⊖ y ⊖ v ⊗ S1)) (x ⊕ v ⊗ (S1 ⊕ z ⊗ r)))
+
+-- r = z*(C1 + z*(C2 + z*(C3 + z*(C4 + z*(C5 + z*C6)))))
+abbrev pub cosSeries : Float → Float
+cosSeries z =
+    z
+    ⊗ (bits 0x3fa555555555554c
+    ⊕ z
+    ⊗ (bits 0xbf56c16c16c15177
+    ⊕ z
+    ⊗ (bits 0x3efa01a019cb1590 ⊕ z ⊗ (bits 0xbe927e4f809c52ad ⊕ z ⊗ (bits 0x3e21ee9ebdb4b1c4 ⊕ z ⊗ bits 0xbda8fae9be8838d4)))))
+
+-- qx: 0.28125, or about x/4: __HI(qx) = ix - 0x00200000, __LO(qx) = 0
+unfoldable pub qxOf : ℕ → Float
+qxOf ix = pick (ltb 0x3fe90000 ix) (bits 0x3fd2000000000000) (bits ((ix - 0x00200000) * 2 ^ 32))
+
+-- __kernel_cos(x, y): the cosine of x + y
+unfoldable pub kernelCos : Float → Float → Float
+kernelCos x y =
+    let ix = ixOf x in
+    let z = x ⊗ x in
+    let r = cosSeries z in
+    let qx = qxOf ix in
+    pick (ltb ix 0x3e400000) one
+    (pick (ltb ix 0x3fd33333) (one ⊖ (half ⊗ z ⊖ (z ⊗ r ⊖ x ⊗ y))) (one ⊖ qx ⊖ (half ⊗ z ⊖ qx ⊖ (z ⊗ r ⊖ x ⊗ y))))

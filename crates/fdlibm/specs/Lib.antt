@@ -1,0 +1,5 @@
+pub mod Words
+pub mod Kernel
+pub mod Reduction
+pub mod Sine
+pub mod Arctangent
