@@ -3,25 +3,56 @@ ghost use mathlib.Core.Path.{_≡_};
 ghost use Prim.Native.Nat.{_^_, _<_};
 ghost use Rattle.fdlibm.specs.Arctangent.{seriesOf, farOf, placedOf, foldedOf, bySigns, onAxis, upright, farAlong, quotientOf};
 
-const ATAN_HI: [f64; 4] = [4.63647609000806093515e-01, 7.85398163397448278999e-01, 9.82793723247329054082e-01, 1.57079632679489655800e+00];
-const ATAN_LO: [f64; 4] = [2.26987774529616870924e-17, 3.06161699786838301793e-17, 1.39033110312309984516e-17, 6.12323399573676603587e-17];
+const ATANHI_0: f64 = 4.63647609000806093515e-01;
+
+const ATANHI_1: f64 = 7.85398163397448278999e-01;
+
+const ATANHI_2: f64 = 9.82793723247329054082e-01;
+
+const ATANHI_3: f64 = 1.57079632679489655800e+00;
+
+const ATANLO_0: f64 = 2.26987774529616870924e-17;
+
+const ATANLO_1: f64 = 3.06161699786838301793e-17;
+
+const ATANLO_2: f64 = 1.39033110312309984516e-17;
+
+const ATANLO_3: f64 = 6.12323399573676603587e-17;
+
 const A0: f64 = 3.33333333333329318027e-01;
+
 const A1: f64 = -1.99999999998764832476e-01;
+
 const A2: f64 = 1.42857142725034663711e-01;
+
 const A3: f64 = -1.11111104054623557880e-01;
+
 const A4: f64 = 9.09088713343650656196e-02;
+
 const A5: f64 = -7.69187620504482999495e-02;
+
 const A6: f64 = 6.66107313738753120669e-02;
+
 const A7: f64 = -5.83357013379057348645e-02;
+
 const A8: f64 = 4.97687799461593236017e-02;
+
 const A9: f64 = -3.65315727442169155270e-02;
+
 const A10: f64 = 1.62858201153657823623e-02;
+
 const MINUS_ONE: f64 = -1.0;
+
 const MINUS_THREE: f64 = -3.0;
+
 const TINY: f64 = 1.0e-300;
+
 const PI_O_4: f64 = 7.8539816339744827900E-01;
+
 const PI_O_2: f64 = 1.5707963267948965580E+00;
+
 pub const PI: f64 = 3.1415926535897931160E+00;
+
 pub const PI_LO: f64 = 1.2246467991473531772E-16;
 
 // 1 - atan(x) / x, by the odd and the even coefficients apart.
@@ -42,9 +73,9 @@ pub fn atan_far(x: f64, sign: u64) -> f64
     if x != x {
         x + x
     } else if sign == 0 {
-        ATAN_HI[3] + ATAN_LO[3]
+        ATANHI_3 + ATANLO_3
     } else {
-        -ATAN_HI[3] - ATAN_LO[3]
+        -ATANHI_3 - ATANLO_3
     }
 }
 
@@ -60,13 +91,13 @@ pub fn atan_folded(t: f64, ix: u64) -> f64
     ensures { λ r. ⌜ r ≡ foldedOf t ix ⌝ }
 {
     if ix < 0x3fe6_0000 {
-        placed(ATAN_HI[0], ATAN_LO[0], (2.0 * t - 1.0) / (2.0 + t))
+        placed(ATANHI_0, ATANLO_0, (2.0 * t - 1.0) / (2.0 + t))
     } else if ix < 0x3ff3_0000 {
-        placed(ATAN_HI[1], ATAN_LO[1], (t - 1.0) / (t + 1.0))
+        placed(ATANHI_1, ATANLO_1, (t - 1.0) / (t + 1.0))
     } else if ix < 0x4003_8000 {
-        placed(ATAN_HI[2], ATAN_LO[2], (t - 1.5) / (1.0 + 1.5 * t))
+        placed(ATANHI_2, ATANLO_2, (t - 1.5) / (1.0 + 1.5 * t))
     } else {
-        placed(ATAN_HI[3], ATAN_LO[3], MINUS_ONE / t)
+        placed(ATANHI_3, ATANLO_3, MINUS_ONE / t)
     }
 }
 
@@ -93,7 +124,11 @@ pub fn on_axis(y: f64, m: u64) -> f64
 pub fn upright(y_sign: u64) -> f64
     ensures { λ r. ⌜ r ≡ upright «y_sign» ⌝ }
 {
-    if y_sign == 0 { PI_O_2 + TINY } else { -PI_O_2 - TINY }
+    if y_sign == 0 {
+        PI_O_2 + TINY
+    } else {
+        -PI_O_2 - TINY
+    }
 }
 
 // Where x is infinite.
@@ -101,7 +136,13 @@ pub fn far_along(iy: u64, m: u64) -> f64
     ensures { λ r. ⌜ r ≡ farAlong iy m ⌝ }
 {
     if iy == 0x7ff0_0000 {
-        by_signs(m, PI_O_4 + TINY, -PI_O_4 - TINY, 3.0 * PI_O_4 + TINY, MINUS_THREE * PI_O_4 - TINY)
+        by_signs(
+            m,
+            PI_O_4 + TINY,
+            -PI_O_4 - TINY,
+            3.0 * PI_O_4 + TINY,
+            MINUS_THREE * PI_O_4 - TINY,
+        )
     } else {
         by_signs(m, 0.0, MINUS_ONE * 0.0, PI + TINY, -PI - TINY)
     }

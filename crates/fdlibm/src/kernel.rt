@@ -4,16 +4,27 @@ ghost use Prim.Native.Nat.{_≤_};
 ghost use Rattle.fdlibm.specs.Kernel.{kernelSin, kernelCos, qxOf};
 
 const S1: f64 = -1.66666666666666324348e-01;
+
 const S2: f64 = 8.33333333332248946124e-03;
+
 const S3: f64 = -1.98412698298579493134e-04;
+
 const S4: f64 = 2.75573137070700676789e-06;
+
 const S5: f64 = -2.50507602534068634195e-08;
+
 const S6: f64 = 1.58969099521155010221e-10;
+
 const C1: f64 = 4.16666666666666019037e-02;
+
 const C2: f64 = -1.38888888888741095749e-03;
+
 const C3: f64 = 2.48015872894767294178e-05;
+
 const C4: f64 = -2.75573143513906633035e-07;
+
 const C5: f64 = 2.08757232129817482790e-09;
+
 const C6: f64 = -1.13596475577881948265e-11;
 
 // The sine of x + y, where tail says whether there is a y at all.
@@ -27,7 +38,11 @@ pub fn kernel_sin(x: f64, y: f64, tail: bool) -> f64
     let z = x * x;
     let v = z * x;
     let r = S2 + z * (S3 + z * (S4 + z * (S5 + z * S6)));
-    if tail { x - ((z * (0.5 * y - v * r) - y) - v * S1) } else { x + v * (S1 + z * r) }
+    if tail {
+        x - ((z * (0.5 * y - v * r) - y) - v * S1)
+    } else {
+        x + v * (S1 + z * r)
+    }
 }
 
 // About a quarter of the angle whose high word is ix: a number with few digits.

@@ -4,7 +4,8 @@
 ghost use mathlib.Core.Path.{_≡_};
 ghost use Rattle.fdlibm.specs.Sine.{sinOf, cosOf, sinAt, cosAt};
 ghost use Rattle.fdlibm.specs.Arctangent.{atanOf, atan2Of};
-use reduction::{Reduced, Reduction};
+use reduction::Reduced;
+use reduction::Reduction;
 
 pub mod kernel; // k_sin.c, k_cos.c
 pub mod reduction; // e_rem_pio2.c
@@ -80,7 +81,11 @@ pub fn atan(x: f64) -> f64
     if 0x4410_0000 <= ix {
         arctangent::atan_far(x, sign)
     } else if ix < 0x3fdc_0000 {
-        if ix < 0x3e20_0000 { x } else { x - x * arctangent::atan_series(x) }
+        if ix < 0x3e20_0000 {
+            x
+        } else {
+            x - x * arctangent::atan_series(x)
+        }
     } else {
         let z = arctangent::atan_folded(number::abs(x), ix);
         if sign == 0 { z } else { -z }
@@ -121,5 +126,11 @@ pub fn atan2(y: f64, x: f64) -> f64
         return arctangent::upright(y_sign);
     }
     let z = arctangent::quotient(y, x, x_bits >> 63, iy, ix);
-    arctangent::by_signs(m, z, -z, arctangent::PI - (z - arctangent::PI_LO), (z - arctangent::PI_LO) - arctangent::PI)
+    arctangent::by_signs(
+        m,
+        z,
+        -z,
+        arctangent::PI - (z - arctangent::PI_LO),
+        (z - arctangent::PI_LO) - arctangent::PI,
+    )
 }

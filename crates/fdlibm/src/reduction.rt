@@ -24,17 +24,53 @@ pub struct Difference {
 
 // The high words of n pi/2: 0 for n = 0, then the C's table, for n = 1 to 32.
 const NPIO2_HW: [u64; 33] = [
-    0x0000_0000, 0x3ff9_21fb, 0x4009_21fb, 0x4012_d97c, 0x4019_21fb, 0x401f_6a7a, 0x4022_d97c, 0x4025_fdbb, 0x4029_21fb,
-    0x402c_463a, 0x402f_6a7a, 0x4031_475c, 0x4032_d97c, 0x4034_6b9c, 0x4035_fdbb, 0x4037_8fdb, 0x4039_21fb, 0x403a_b41b,
-    0x403c_463a, 0x403d_d85a, 0x403f_6a7a, 0x4040_7e4c, 0x4041_475c, 0x4042_106c, 0x4042_d97c, 0x4043_a28c, 0x4044_6b9c,
-    0x4045_34ac, 0x4045_fdbb, 0x4046_c6cb, 0x4047_8fdb, 0x4048_58eb, 0x4049_21fb,
+    0x0000_0000,
+    0x3ff9_21fb,
+    0x4009_21fb,
+    0x4012_d97c,
+    0x4019_21fb,
+    0x401f_6a7a,
+    0x4022_d97c,
+    0x4025_fdbb,
+    0x4029_21fb,
+    0x402c_463a,
+    0x402f_6a7a,
+    0x4031_475c,
+    0x4032_d97c,
+    0x4034_6b9c,
+    0x4035_fdbb,
+    0x4037_8fdb,
+    0x4039_21fb,
+    0x403a_b41b,
+    0x403c_463a,
+    0x403d_d85a,
+    0x403f_6a7a,
+    0x4040_7e4c,
+    0x4041_475c,
+    0x4042_106c,
+    0x4042_d97c,
+    0x4043_a28c,
+    0x4044_6b9c,
+    0x4045_34ac,
+    0x4045_fdbb,
+    0x4046_c6cb,
+    0x4047_8fdb,
+    0x4048_58eb,
+    0x4049_21fb,
 ];
+
 const INVPIO2: f64 = 6.36619772367581382433e-01;
+
 const PIO2_1: f64 = 1.57079632673412561417e+00;
+
 const PIO2_1T: f64 = 6.07710050650619224932e-11;
+
 const PIO2_2: f64 = 6.07710050630396597660e-11;
+
 const PIO2_2T: f64 = 2.02226624879595063154e-21;
+
 const PIO2_3: f64 = 2.02226624871116645580e-21;
+
 const PIO2_3T: f64 = 8.47842766036889956997e-32;
 
 // The whole part, as C's cast to int has it, of a number that is not negative; 0 of a negative one.
@@ -197,10 +233,18 @@ pub fn rem_pio2(x: f64) -> Reduced
             y1: 0.0,
         })
     } else if ix < 0x4002_d97c {
-        if sign == 0 { Reduced::To(near_above(x, ix)) } else { Reduced::To(near_below(x, ix)) }
+        if sign == 0 {
+            Reduced::To(near_above(x, ix))
+        } else {
+            Reduced::To(near_below(x, ix))
+        }
     } else if ix <= 0x4139_21fb {
         let a = medium(number::abs(x), ix);
-        if sign == 0 { Reduced::To(a) } else { Reduced::To(turned_back(a)) }
+        if sign == 0 {
+            Reduced::To(a)
+        } else {
+            Reduced::To(turned_back(a))
+        }
     } else if 0x7ff0_0000 <= ix {
         Reduced::To(Reduction {
             quadrant: 0,
