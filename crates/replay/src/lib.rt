@@ -1,0 +1,106 @@
+//! What every program that replays recorded outside results shares.
+//!
+//! A list is the program's standard input: records of one size, each some 8-byte big-endian words. A program reads
+//! a record with `next`, takes its words with `word`, counts what it found with `counted`, and writes one line with
+//! `report`: `square roots: 4123 compared, 0 differ`.
+ghost use mathlib.Core.Path.{_≡_};
+ghost use Prim.Native.Nat.{_+_, _≤_, _<_};
+ghost use lib.ListN.{length, getD};
+ghost use Rattle.replay.specs.Word.{halfAt, wordAt};
+ghost use Rattle.replay.specs.Tally.{countedOf};
+
+// How many records were compared, how many of them differ, and which was the first that did (from 0).
+pub struct Tally {
+    pub compared: u64,
+    pub differ: u64,
+    pub first: u64,
+}
+
+// Nothing compared yet.
+pub fn none() -> Tally
+    ensures { λ r. ⌜ r ≡ record { compared = 0; differ = 0; first = 0 } ⌝ }
+{
+    Tally {
+        compared: 0,
+        differ: 0,
+        first: 0,
+    }
+}
+
+// One record more, whose answer was the recorded one or not.
+pub fn counted(t: Tally, same: bool) -> Tally
+    ensures { λ r. ⌜ r ≡ countedOf t same ⌝ }
+{
+    let compared = std::num::wrapping_add_u64(t.compared, 1);
+    if same {
+        Tally {
+            compared,
+            differ: t.differ,
+            first: t.first,
+        }
+    } else if t.differ == 0 {
+        Tally {
+            compared,
+            differ: 1,
+            first: t.compared,
+        }
+    } else {
+        Tally {
+            compared,
+            differ: std::num::wrapping_add_u64(t.differ, 1),
+            first: t.first,
+        }
+    }
+}
+
+// Fills the record from standard input. False at the end of the list.
+pub fn next(record: &mut [u8]) -> bool {
+    let got = io::read_full(libc::STDIN_FILENO, record);
+    got == record.len()
+}
+
+fn wide(byte: u8) -> u64
+    ensures { λ r. ⌜ (r ≡ byte) × (r < 256) ⌝ }
+{
+    byte as u64
+}
+
+// The four bytes from `at` on, big-endian.
+fn half(bytes: &[u8], at: usize) -> u64
+    requires { ⌜ at + 4 ≤ length (now bytes) ⌝ }
+    ensures { λ r. ⌜ (r ≡ halfAt (now (bytes .entry)) at) × (r < 4294967296) ⌝ }
+{
+    let a = wide(bytes[at]);
+    let b = wide(bytes[at + 1]);
+    let c = wide(bytes[at + 2]);
+    let d = wide(bytes[at + 3]);
+    ((a * 256 + b) * 256 + c) * 256 + d
+}
+
+// The eight bytes from `at` on as a big-endian number, or 0 where there are fewer.
+pub fn word(bytes: &[u8], at: usize) -> u64
+    ensures { λ r. ⌜ r ≡ wordAt (now (bytes .entry)) at ⌝ }
+{
+    if bytes.len() < 8 {
+        return 0;
+    }
+    if bytes.len() - 8 < at {
+        return 0;
+    }
+    half(bytes, at) * 4294967296 + half(bytes, at + 4)
+}
+
+// Writes the line: what was compared, how many, how many differ, and the first that does.
+pub fn report(what: &[u8], t: Tally) {
+    io::write_all(libc::STDOUT_FILENO, what);
+    io::write_all(libc::STDOUT_FILENO, b": ");
+    io::print_decimal(libc::STDOUT_FILENO, t.compared);
+    io::write_all(libc::STDOUT_FILENO, b" compared, ");
+    io::print_decimal(libc::STDOUT_FILENO, t.differ);
+    io::write_all(libc::STDOUT_FILENO, b" differ");
+    if 0 < t.differ {
+        io::write_all(libc::STDOUT_FILENO, b", the first at ");
+        io::print_decimal(libc::STDOUT_FILENO, t.first);
+    }
+    io::write_all(libc::STDOUT_FILENO, b"\n");
+}
