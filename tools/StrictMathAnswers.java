@@ -1,18 +1,18 @@
-// Arguments and the answers of Java's StrictMath, which is fdlibm 5.3 by its specification. Each record is
-// some 8-byte big-endian words: the argument (atan2: y, then x), then the answer's bits.
+// Arguments and the answers of Java's StrictMath, which is fdlibm 5.3 by its specification, as 8-byte big-endian words.
 //
-//   java StrictMathAnswers.java list FUNCTION            the fixed list that the gate replays
-//   java StrictMathAnswers.java stream FUNCTION SEED N   N random records
+//   java StrictMathAnswers.java list                     the fixed list that the gate replays
+//   java StrictMathAnswers.java stream FUNCTION SEED N   N random records of one function: sin, cos, atan or atan2
 //
-// FUNCTION is sin, cos, atan or atan2. In a list the answer beyond reach, where sine and cosine are NaN by our rule,
-// is recorded as NaN; a stream has StrictMath's own answer everywhere. The counts go to standard error.
+// A record of the list is y, x and the bits of sin(x), cos(x), atan(x) and atan2(y, x). Beyond reach, where our sine and
+// cosine are NaN, the mark 7ff8000000000001 stands for them; every other NaN is 7ff8000000000000. A record of a stream is the
+// argument (atan2: y, then x) and StrictMath's own answer everywhere. The counts go to standard error.
 import java.io.BufferedOutputStream;
 import java.io.DataOutputStream;
 import java.io.IOException;
 import java.util.SplittableRandom;
 
 public class StrictMathAnswers {
-    static final long NAN = 0x7ff8000000000000L;
+    static final long BEYOND = 0x7ff8000000000001L;
     static final long SIGN = 0x8000000000000000L;
     static final long INFINITY = 0x7ff0000000000000L;
     static final int LAST_IN_REACH = 0x413921fb;
@@ -47,112 +47,115 @@ public class StrictMathAnswers {
     }
 
     static boolean beyondReach(long x) {
-        long high = (x & ~SIGN) >>> 32;
-        return !two() && !function.equals("atan") && high > LAST_IN_REACH && (x & ~SIGN) < INFINITY;
+        return (x & ~SIGN) >>> 32 > LAST_IN_REACH && (x & ~SIGN) < INFINITY;
     }
 
-    static void write(long y, long x, boolean ours) throws IOException {
-        long bits = Double.doubleToLongBits(answer(Double.longBitsToDouble(y), Double.longBitsToDouble(x)));
-        if (beyondReach(x)) {
-            beyond++;
-            if (ours) {
-                bits = NAN;
-            }
-        }
+    // A record of a stream.
+    static void write(long y, long x) throws IOException {
         if (two()) {
             out.writeLong(y);
+        } else if (!function.equals("atan") && beyondReach(x)) {
+            beyond++;
         }
         out.writeLong(x);
-        out.writeLong(bits);
+        out.writeLong(Double.doubleToLongBits(answer(Double.longBitsToDouble(y), Double.longBitsToDouble(x))));
         written++;
     }
 
-    static void both(long x) throws IOException {
-        write(0, x & ~SIGN, true);
-        write(0, x | SIGN, true);
+    // A record of the list.
+    static void record(long y, long x) throws IOException {
+        double v = Double.longBitsToDouble(y);
+        double u = Double.longBitsToDouble(x);
+        out.writeLong(y);
+        out.writeLong(x);
+        out.writeLong(beyondReach(x) ? BEYOND : Double.doubleToLongBits(StrictMath.sin(u)));
+        out.writeLong(beyondReach(x) ? BEYOND : Double.doubleToLongBits(StrictMath.cos(u)));
+        out.writeLong(Double.doubleToLongBits(StrictMath.atan(u)));
+        out.writeLong(Double.doubleToLongBits(StrictMath.atan2(v, u)));
+        written++;
+        if (beyondReach(x)) {
+            beyond++;
+        }
+    }
+
+    static long last = 0;
+
+    // x with the x of the record before it as y.
+    static void one(long x) throws IOException {
+        record(last, x);
+        last = x;
     }
 
     // x, the two numbers before it and the two after it, of either sign.
     static void around(long x) throws IOException {
         for (long d = -2; d <= 2; d++) {
-            long y = (x & ~SIGN) + d;
-            if (y >= 0) {
-                both(y);
+            if (x + d >= 0) {
+                one(x + d);
+                one((x + d) | SIGN);
             }
         }
     }
 
+    // Every exponent, the neighbours of every case boundary and of multiples of pi/4 and pi/2, and random angles.
     static void listOne(SplittableRandom random) throws IOException {
         for (int exponent = 0; exponent <= 2047; exponent++) {
-            both(((long) exponent << 52) | (random.nextLong() >>> 12));
+            one(random.nextLong() & ~INFINITY | (long) exponent << 52);
         }
         for (int high : HIGH_WORDS) {
-            for (int d = -1; d <= 1; d++) {
-                if (high + d < 0) {
-                    continue;
-                }
-                long word = (long) (high + d) << 32;
-                around(word);
-                around(word | 0xffffffffL);
-            }
+            around((long) high << 32);
+            around((long) high << 32 | 0xffffffffL);
         }
-        for (int n = 1; n <= 160; n++) {
+        for (int n = 1; n <= 64; n++) {
             around(Double.doubleToLongBits(n * (Math.PI / 4)));
         }
-        for (int k = 8; k <= 19; k++) {
-            for (int d = -2; d <= 2; d++) {
+        for (int k = 6; k <= 19; k++) {
+            for (int d = -1; d <= 1; d++) {
                 around(Double.doubleToLongBits(((1 << k) + d) * (Math.PI / 2)));
             }
         }
-        for (int i = 0; i < 300; i++) {
+        for (int i = 0; i < 60; i++) {
             around(Double.doubleToLongBits(random.nextInt(1, 1 << 20) * (Math.PI / 4)));
         }
-        for (int i = 0; i < 1000; i++) {
-            write(0, Double.doubleToLongBits((random.nextDouble() - 0.5) * (1 << 21)), true);
-            write(0, Double.doubleToLongBits((random.nextDouble() - 0.5) * 16), true);
+        for (int i = 0; i < 300; i++) {
+            one(Double.doubleToLongBits((random.nextDouble() - 0.5) * (1 << 21)));
+            one(Double.doubleToLongBits((random.nextDouble() - 0.5) * 16));
         }
-        write(0, NAN, true);
     }
 
     static final double[] SPECIAL = {
-        0.0, 4.9e-324, 1e-310, 2.2250738585072014e-308, 1e-300, 1e-20, 0.4375, 0.6875, 1.0, 1.1875, 1.5, 2.4375, 3.0, 1e20,
-        7.378697629483821e19, 1e300, 1.7976931348623157e308, Double.POSITIVE_INFINITY, Double.NaN, 0.9999999999999999,
-        1.0000000000000002,
+        0.0, 4.9e-324, 2.2250738585072014e-308, 1e-300, 1e-20, 0.4375, 0.6875, 1.0, 1.1875, 2.4375, 7.378697629483821e19,
+        1e300, 1.7976931348623157e308, Double.POSITIVE_INFINITY, Double.NaN, 0.9999999999999999, 1.0000000000000002,
     };
 
+    static void signed(long y, long x) throws IOException {
+        record(y, x);
+        record(y | SIGN, x);
+        record(y, x | SIGN);
+        record(y | SIGN, x | SIGN);
+    }
+
+    // Every combination of the special values, quotients at every case boundary and at 2^60 and 2^-60, and random ones.
     static void listTwo(SplittableRandom random) throws IOException {
         for (double y : SPECIAL) {
             for (double x : SPECIAL) {
-                for (int signs = 0; signs < 4; signs++) {
-                    write(Double.doubleToLongBits((signs & 1) == 0 ? y : -y), Double.doubleToLongBits((signs & 2) == 0 ? x : -x), true);
-                }
+                signed(Double.doubleToLongBits(y), Double.doubleToLongBits(x));
             }
-        }
-        for (int exponent = 0; exponent <= 2047; exponent++) {
-            write(random.nextLong(), ((long) exponent << 52) | (random.nextLong() & ~INFINITY), true);
-            write(((long) exponent << 52) | (random.nextLong() & ~INFINITY), random.nextLong(), true);
         }
         for (int high : HIGH_WORDS) {
-            for (int d = -1; d <= 1; d++) {
-                if (high + d < 0) {
-                    continue;
-                }
-                long word = (long) (high + d) << 32;
-                for (int signs = 0; signs < 4; signs++) {
-                    write(word | ((signs & 1) == 0 ? 0 : SIGN), 0x3ff0000000000001L | ((signs & 2) == 0 ? 0 : SIGN), true);
+            signed((long) high << 32, 0x3ff0000000000001L);
+        }
+        for (int i = 0; i < 40; i++) {
+            long x = random.nextLong() & ~INFINITY & ~SIGN | (long) random.nextInt(70, 1970) << 52;
+            for (int k = 60; k <= 61; k++) {
+                for (int d = -1; d <= 0; d++) {
+                    long word = ((long) k << 52) + ((long) d << 32);
+                    signed(x + word, x);
+                    signed(x, x + word);
                 }
             }
         }
-        for (int i = 0; i < 400; i++) {
-            long x = random.nextLong() & ~INFINITY | ((long) random.nextInt(70, 1970) << 52);
-            for (int k = 59; k <= 62; k++) {
-                long word = (long) k << 52;
-                write((x & ~SIGN) + word | (random.nextLong() & SIGN), x, true);
-                write((x & ~SIGN) - word | (random.nextLong() & SIGN), x, true);
-            }
-        }
-        for (int i = 0; i < 2000; i++) {
-            write(Double.doubleToLongBits(random.nextDouble() - 0.5), Double.doubleToLongBits(random.nextDouble() - 0.5), true);
+        for (int i = 0; i < 600; i++) {
+            record(Double.doubleToLongBits(random.nextDouble() - 0.5), Double.doubleToLongBits(random.nextDouble() - 0.5));
         }
     }
 
@@ -181,30 +184,29 @@ public class StrictMathAnswers {
         for (long i = 0; i < count; i++) {
             if (two()) {
                 if ((i & 3) == 0) {
-                    write(random.nextLong(), random.nextLong(), false);
+                    write(random.nextLong(), random.nextLong());
                 } else {
                     int exponent = random.nextInt(-900, 900);
-                    write(withExponent(random, exponent - 70, exponent + 70), withExponent(random, exponent, exponent + 1), false);
+                    write(withExponent(random, exponent - 70, exponent + 70), withExponent(random, exponent, exponent + 1));
                 }
             } else if (function.equals("atan")) {
-                write(0, (i & 1) == 0 ? withExponent(random, -32, 8) : random.nextLong(), false);
+                write(0, (i & 1) == 0 ? withExponent(random, -32, 8) : random.nextLong());
             } else {
-                write(0, randomAngle(random), false);
+                write(0, randomAngle(random));
             }
         }
     }
 
     public static void main(String[] words) throws IOException {
-        function = words[1];
         out = new DataOutputStream(new BufferedOutputStream(System.out, 1 << 16));
         if (words[0].equals("stream")) {
+            function = words[1];
             stream(new SplittableRandom(Long.parseLong(words[2])), Long.parseLong(words[3]));
-        } else if (two()) {
-            listTwo(new SplittableRandom(2));
         } else {
             listOne(new SplittableRandom(1));
+            listTwo(new SplittableRandom(2));
         }
         out.flush();
-        System.err.println(function + ": " + written + " records, " + beyond + " beyond reach");
+        System.err.println(written + " records, " + beyond + " beyond reach");
     }
 }
