@@ -1,1 +1,3 @@
 pub mod Truncation
+pub mod Examples
+pub mod Laws
