@@ -7,9 +7,9 @@ ghost use Rattle.fdlibm.specs.Arctangent.{atanOf, atan2Of};
 use reduction::Reduced;
 use reduction::Reduction;
 
-pub mod kernel; // k_sin.c, k_cos.c
-pub mod reduction; // e_rem_pio2.c
-pub mod arctangent; // the parts of s_atan.c and e_atan2.c
+mod kernel; // k_sin.c, k_cos.c
+mod reduction; // e_rem_pio2.c
+mod arctangent; // the parts of s_atan.c and e_atan2.c
 
 // The sine of a reduced angle, by its quadrant.
 fn sin_at(a: Reduction) -> f64
