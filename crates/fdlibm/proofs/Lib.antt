@@ -1,3 +1,5 @@
 pub mod Truncation
 pub mod Examples
 pub mod Laws
+pub mod Bounded
+pub mod Finite
