@@ -1,12 +1,12 @@
 -- Numbers of magnitude at most 2 ^ k, and what the operations make of them: as long as no bound passes 2 ^ 1023 no result overflows. Assumes nothing.
 use mathlib.Core.Path.{_≡_, refl, sym, ap, _∙_, subst}
-use Prim.Native.Nat.{ℕ, zero, suc, _+_, _-_, _*_, _/_, _%_, _^_, _≤_, _<_, compare}
-use native.Mathlib.Nat.{le-trans, le-of-eq, lt-of-le-of-lt, mul-comm, mul-assoc, mul-one, mul-pos, mul-right-comm, mul-le-mul, mul-le-mul-right, div-one, mod-one, div-le-of-le-mul}
+use Prim.Native.Nat.{ℕ, suc, _+_, _-_, _*_, _/_, _%_, _^_, _≤_, _<_, compare}
+use native.Mathlib.Nat.{le-trans, le-of-eq, lt-of-le-of-lt, mul-comm, mul-assoc, mul-one, mul-pos, mul-le-mul, mul-le-mul-right, div-one, mod-one, div-le-of-le-mul}
 use native.Mathlib.Omega.{arith}
 use mathlib.Core.Bool.{Bool, true, false, not, cond, _&&_, Bool·beq}
-use lib.Dec.{T, leb, ltb, leb→le, lit≤, lit<}
+use lib.Dec.{T, leb, ltb, leb→le, lit<}
 use lib.Pow.{pow-add, pow-pos, pow-mono, pow-lt}
-use lib.Ieee.{Float, nan, inf, fin, binary64, size, nearest, units, round, sum, unlike, neg, ofInt}
+use lib.Ieee.{Float, nan, inf, fin, binary64, size, nearest, round, sum, unlike, neg, ofInt}
 use lib.IntN.{pos}
 use lib.Ieee.Bits.{ofBits-fits}
 use lib.Ieee.Digits.{size-le}

@@ -1,6 +1,6 @@
 -- Values of the functions by evaluation; `computing` opens all that a closed term needs. Assumes nothing.
 use mathlib.Core.Path.{_≡_, refl}
-use lib.Ieee.{nan, inf, add, sub, mul, div, neg, ofBits, toBits, ofInt, toUnsigned, isNan}
+use lib.Ieee.{add, sub, mul, div, neg, ofBits, toBits, ofInt, toUnsigned, isNan}
 use Rattle.number.specs.Operators.{bits}
 use Rattle.number.specs.Helpers.{absOf}
 use Rattle.fdlibm.specs.Kernel.{kernelSin, kernelCos, qxOf}

@@ -1,5 +1,5 @@
 -- In reach sine and cosine are finite: no step can overflow. The bounds are crude, powers of two. Assumes nothing.
-use mathlib.Core.Path.{_≡_, sym, ap, _∙_, subst}
+use mathlib.Core.Path.{sym, subst}
 use Prim.Native.Nat.{ℕ, zero, suc, _+_, _-_, _*_, _/_, _%_, _^_, _≤_, _<_}
 use native.Mathlib.Nat.{le-trans, le-of-lt, mod-lt}
 use native.Mathlib.Omega.{arith}
@@ -23,10 +23,11 @@ use Rattle.fdlibm.specs.declared.reduction.Reduced.{Reduced}
 use Rattle.fdlibm.specs.declared.reduction.Reduced.the-variants.{To, Beyond}
 use Rattle.fdlibm.specs.Words.{ixOf, signOf, exponentOf}
 use Rattle.fdlibm.specs.Kernel.{one, half, S1, sinSeries, cosSeries, kernelSin, kernelCos, qxOf}
-use Rattle.fdlibm.specs.Reduction.{npio2hw, invpio2, pio2-1, pio2-1t, pio2-2, pio2-2t, pio2-3, pio2-3t, aboveOf, belowOf, firstOf, nextOf, carefulOf, settledOf, mediumOf, backOf, remPio2}
-use Rattle.fdlibm.specs.Sine.{sinAt, cosAt, inReach, sinOf, cosOf}
-use Rattle.fdlibm.proofs.Truncation.{at, fields, normal, cut-most}
-use Rattle.fdlibm.proofs.Laws.{pick-is}
+use Rattle.fdlibm.specs.Reduction.{npio2hw, invpio2, pio2-2, pio2-2t, pio2-3, pio2-3t, aboveOf, belowOf, firstOf, nextOf, carefulOf, settledOf, mediumOf, backOf, remPio2}
+use Rattle.fdlibm.specs.Sine.{sinAt, cosAt, sinOf, cosOf}
+use Rattle.fdlibm.proofs.Fields.{at, fields, normal}
+use Rattle.fdlibm.proofs.Truncation.{cut-most}
+use Rattle.fdlibm.proofs.Laws.{pick-is, sin-at-is, cos-at-is, in-reach-is}
 use Rattle.fdlibm.proofs.Bounded.{Under, lift, under-finite, plus, minus, times, turned, positive, counted, constant}
 
 -- ---- a number by its exponent's field: below 2 ^ (k + 1) where the field is at most 1023 + k
@@ -233,16 +234,10 @@ module _ (a : Reduction) (l : Left a) where
   c-under = kernel-cos-under (a .y0) (a .y1) (l .0) (l .1)
 
   sin-at-under : Under 650 (sinAt a)
-  unfolding sinAt
-  sin-at-under =
-      pick-is (Under 650) (eqb (a .quadrant) 0) s-under
-      (pick-is (Under 650) (eqb (a .quadrant) 1) c-under (pick-is (Under 650) (eqb (a .quadrant) 2) (turned s-under) (turned c-under)))
+  sin-at-under = sin-at-is (Under 650) (λ x. turned) a s-under c-under
 
   cos-at-under : Under 650 (cosAt a)
-  unfolding cosAt
-  cos-at-under =
-      pick-is (Under 650) (eqb (a .quadrant) 0) c-under
-      (pick-is (Under 650) (eqb (a .quadrant) 1) (turned s-under) (pick-is (Under 650) (eqb (a .quadrant) 2) (turned c-under) s-under))
+  cos-at-under = cos-at-is (Under 650) (λ x. turned) a s-under c-under
 
 module _ (x : Float) (f : T (fits binary64 x)) (h : ixOf x ≤ 0x413921fb) where
   x-under : Under 21 x
@@ -259,20 +254,16 @@ module _ (x : Float) (f : T (fits binary64 x)) (h : ixOf x ≤ 0x413921fb) where
       (pick-is LeftOf (ltb ix 0x4002d97c) (pick-is Left (eqb (signOf x) 0) (above-under x ix x-under) (below-under x ix x-under))
       (pick-is Left (eqb (signOf x) 0) m (back-under a m))))
 
-  through : (g : Reduction → Float) → ((a : Reduction) → Left a → Under 650 (g a)) → (r : Reduced) → LeftOf r → Under 650 (inReach g r)
-  through g k (To a) l = k a l
-  through g k Beyond l = absurd l
-
   pub sin-finite : T (finite (sinOf x))
   unfolding sinOf
   sin-finite =
       under-finite
       (pick-is (Under 650) (leb (ixOf x) 0x3fe921fb) (kernel-sin-under x (bits 0) (lift 44 tt x-under) zero-under false)
-      (pick-is (Under 650) (leb 0x7ff00000 (ixOf x)) (lift 650 tt (minus 21 tt tt tt x-under x-under)) (through sinAt sin-at-under (remPio2 x) rem-under)))
+      (pick-is (Under 650) (leb 0x7ff00000 (ixOf x)) (lift 650 tt (minus 21 tt tt tt x-under x-under)) (in-reach-is (Under 650) LeftOf sinAt sin-at-under (λ e. absurd e) (remPio2 x) rem-under)))
 
   pub cos-finite : T (finite (cosOf x))
   unfolding cosOf
   cos-finite =
       under-finite
       (pick-is (Under 650) (leb (ixOf x) 0x3fe921fb) (kernel-cos-under x (bits 0) (lift 44 tt x-under) zero-under)
-      (pick-is (Under 650) (leb 0x7ff00000 (ixOf x)) (lift 650 tt (minus 21 tt tt tt x-under x-under)) (through cosAt cos-at-under (remPio2 x) rem-under)))
+      (pick-is (Under 650) (leb 0x7ff00000 (ixOf x)) (lift 650 tt (minus 21 tt tt tt x-under x-under)) (in-reach-is (Under 650) LeftOf cosAt cos-at-under (λ e. absurd e) (remPio2 x) rem-under)))

@@ -1,15 +1,14 @@
 -- What every angle's sine and cosine have: a NaN beyond reach, and a result that binary64 holds. Assumes nothing.
-use mathlib.Core.Path.{_≡_, refl, sym, ap, _∙_, subst}
-use mathlib.Core.Logic.{_⊎_, inl, inr}
-use Prim.Native.Nat.{ℕ, _+_, _-_, _*_, _/_, _%_, _^_, _≤_, _<_}
+use mathlib.Core.Path.{_≡_, refl, ap, _∙_}
+use Prim.Native.Nat.{ℕ, _+_, _*_, _/_, _%_, _^_, _≤_, _<_}
 use native.Mathlib.Omega.{arith}
 use mathlib.Core.Bool.{Bool, true, false, cond, _&&_}
-use borrow.Author.Tests.{lt-ltb, le-ltb, le-leb, lt-leb}
+use borrow.Author.Tests.{le-ltb, le-leb, lt-leb}
 use lib.Bits.{bitAnd, and-mask}
 use native.Mathlib.Decide.{decLe}
 use native.Mathlib.Nat.{lt-of-not-le}
 use lib.Dec.{T, leb, ltb, eqb, lit<}
-use lib.Ieee.{Float, nan, inf, fin, binary64, neg, sub, toBits, ofFields, fits, isNan}
+use lib.Ieee.{Float, nan, inf, binary64, neg, sub, toBits, ofFields, fits, isNan}
 use lib.Ieee.Bits.{ofBits-fits}
 use lib.Ieee.Fits.{add-fits, sub-fits, mul-fits, div-fits, neg-fits, nan-fits, inf-fits}
 use Rattle.loops.specs.Loop.{pick}
@@ -24,7 +23,7 @@ use Rattle.fdlibm.specs.Kernel.{kernelSin, kernelCos}
 use Rattle.fdlibm.specs.Reduction.{remPio2, aboveOf, belowOf, mediumOf, backOf}
 use Rattle.fdlibm.specs.Sine.{sinOf, cosOf, sinAt, cosAt, inReach}
 use Rattle.fdlibm.specs.Arctangent.{farOf, placedOf, foldedOf, atanOf, bySigns, upright, farAlong, quotientOf, signsOf, atan2Of}
-use Rattle.fdlibm.proofs.Truncation.{at, fields}
+use Rattle.fdlibm.proofs.Fields.{at, fields}
 
 -- ---- beyond reach: every angle, infinity and NaN whose high word is above 413921fb
 
@@ -98,6 +97,20 @@ pub pick-is : {A : Type 0} (P : A → Type 0) (b : Bool) {u v : A} → P u → P
 pick-is P true p q = p
 pick-is P false p q = q
 
+-- what the kernels' results have, of either sign, the two switches have
+module _ (P : Float → Type 0) (other : (x : Float) → P x → P (neg x)) (a : Reduction) (s : P (kernelSin (a .y0) (a .y1) true)) (c : P (kernelCos (a .y0) (a .y1))) where
+  pub sin-at-is : P (sinAt a)
+  unfolding sinAt
+  sin-at-is = pick-is P (eqb (a .quadrant) 0) s (pick-is P (eqb (a .quadrant) 1) c (pick-is P (eqb (a .quadrant) 2) (other _ s) (other _ c)))
+
+  pub cos-at-is : P (cosAt a)
+  unfolding cosAt
+  cos-at-is = pick-is P (eqb (a .quadrant) 0) c (pick-is P (eqb (a .quadrant) 1) (other _ s) (pick-is P (eqb (a .quadrant) 2) (other _ c) s))
+
+pub in-reach-is : (P : Float → Type 0) (Q : Reduced → Type 0) (g : Reduction → Float) → ((a : Reduction) → Q (To a) → P (g a)) → (Q Beyond → P nan) → (r : Reduced) → Q r → P (inReach g r)
+in-reach-is P Q g k b (To a) q = k a q
+in-reach-is P Q g k b Beyond q = b q
+
 abbrev pub Fit : Float → Type 0
 Fit x = T (fits binary64 x)
 
@@ -145,10 +158,6 @@ rem-fits x f =
     (pick-is LeftOf (leb ix 0x413921fb) (pick-is Left (eqb (signOf x) 0) (medium-fits (absOf x) ix) (back-fits a (medium-fits (absOf x) ix)))
     (pick-is LeftOf (leb 0x7ff00000 ix) (sub-fits binary64 x x) tt)))
 
-in-reach-fits : (g : Reduction → Float) → ((a : Reduction) → Left a → Fit (g a)) → (r : Reduced) → LeftOf r → Fit (inReach g r)
-in-reach-fits g h (To a) l = h a l
-in-reach-fits g h Beyond l = nan-fits binary64
-
 module _ (a : Reduction) (f : Left a) where
   s-fits : Fit (kernelSin (a .y0) (a .y1) true)
   s-fits = kernel-sin-fits (a .y0) (a .y1) true f
@@ -157,28 +166,22 @@ module _ (a : Reduction) (f : Left a) where
   c-fits = kernel-cos-fits (a .y0) (a .y1)
 
   sin-at-fits : Fit (sinAt a)
-  unfolding sinAt
-  sin-at-fits =
-      pick-is Fit (eqb (a .quadrant) 0) s-fits
-      (pick-is Fit (eqb (a .quadrant) 1) c-fits (pick-is Fit (eqb (a .quadrant) 2) (neg-fits binary64 _ s-fits) (neg-fits binary64 _ c-fits)))
+  sin-at-fits = sin-at-is Fit (neg-fits binary64) a s-fits c-fits
 
   cos-at-fits : Fit (cosAt a)
-  unfolding cosAt
-  cos-at-fits =
-      pick-is Fit (eqb (a .quadrant) 0) c-fits
-      (pick-is Fit (eqb (a .quadrant) 1) (neg-fits binary64 _ s-fits) (pick-is Fit (eqb (a .quadrant) 2) (neg-fits binary64 _ c-fits) s-fits))
+  cos-at-fits = cos-at-is Fit (neg-fits binary64) a s-fits c-fits
 
 pub sin-fits : (x : Float) → Fit x → Fit (sinOf x)
 unfolding sinOf
 sin-fits x f =
     pick-is Fit (leb (ixOf x) 0x3fe921fb) (kernel-sin-fits x (bits 0) false f)
-    (pick-is Fit (leb 0x7ff00000 (ixOf x)) (sub-fits binary64 x x) (in-reach-fits sinAt sin-at-fits (remPio2 x) (rem-fits x f)))
+    (pick-is Fit (leb 0x7ff00000 (ixOf x)) (sub-fits binary64 x x) (in-reach-is Fit LeftOf sinAt sin-at-fits (λ _. nan-fits binary64) (remPio2 x) (rem-fits x f)))
 
 pub cos-fits : (x : Float) → Fit x → Fit (cosOf x)
 unfolding cosOf
 cos-fits x f =
     pick-is Fit (leb (ixOf x) 0x3fe921fb) (kernel-cos-fits x (bits 0))
-    (pick-is Fit (leb 0x7ff00000 (ixOf x)) (sub-fits binary64 x x) (in-reach-fits cosAt cos-at-fits (remPio2 x) (rem-fits x f)))
+    (pick-is Fit (leb 0x7ff00000 (ixOf x)) (sub-fits binary64 x x) (in-reach-is Fit LeftOf cosAt cos-at-fits (λ _. nan-fits binary64) (remPio2 x) (rem-fits x f)))
 
 placed-fits : (hi lo x : Float) → Fit (placedOf hi lo x)
 unfolding placedOf

@@ -1,3 +1,4 @@
+pub mod Fields
 pub mod Truncation
 pub mod Examples
 pub mod Laws

@@ -5,15 +5,14 @@ use Prim.Native.Nat.{ℕ, zero, suc, _+_, _-_, _*_, _/_, _%_, _^_, _≤_, _<_, m
 use native.Mathlib.Nat.{mul-comm, mul-div-mul-right, div-eq-of-lt, le-div-iff-mul-le, min-eq-left, min-eq-right, min-le-right, le-trans, le-of-eq, mul-le-mul-right, lt-of-lt-of-le, eq-or-lt-of-le, mod-lt}
 use native.Mathlib.Omega.{arith}
 use mathlib.Core.Bool.{Bool, true, false, not, cond}
-use lib.Dec.{T, leb, eqb, eqb→eq, lit≤}
+use lib.Dec.{T, leb, eqb, lit≤}
 use borrow.Author.Tests.{le-leb, lt-leb}
 use lib.Bits.{bitAnd, and-mask}
 use lib.Pow.{pow-add, pow-pos, pow-mono, shl-lt, shr-lt}
 use lib.Ieee.{Float, nan, inf, fin, binary64, up, down, odd, ofFields, toBits, fits, isNan, toUnsigned}
-use lib.Ieee.Bits.{ofBits-toBits}
 use lib.Ieee.Fits.{down-pos}
 use lib.Ieee.Exact.{HasValue, odd-sign}
-use Rattle.number.proofs.Values.{bits-is}
+use Rattle.fdlibm.proofs.Fields.{at, normal, fields}
 
 abbrev pub most : ℕ
 most = 2 ^ 31 - 1
@@ -45,20 +44,7 @@ cut-most (inf false) = lit≤ tt
 cut-most (fin true m e) = lit≤ tt
 cut-most (fin false m e) = min-le-right (m * up e / down e) most
 
--- ---- by the fields: the sign, the exponent's field and the digits
-abbrev pub at : Bool → ℕ → ℕ → Float
-at s e t = ofFields binary64 s e t
-
-off : (k : ℕ) → suc k ≡ 2047 → suc k < 2047 → ⊥
-off k e h = omega arith
-
-pub normal : (s : Bool) (k t : ℕ) → suc k < 2047 → HasValue (at s (suc k) t) s ((2 ^ 52 + t) * 2 ^ k) (2 ^ 1074)
-unfolding ofFields
-normal s k t h = go (eqb (suc k) 2047) (eqb→eq (suc k) 2047)
-  where
-    go : (b : Bool) → (T b → suc k ≡ 2047) → HasValue (cond b (cond (eqb t 0) (inf s) nan) (odd 53 s (2 ^ 52 + t) k 1074)) s ((2 ^ 52 + t) * 2 ^ k) (2 ^ 1074)
-    go true e = absurd (off k (e tt) h)
-    go false e = odd-sign 53 s (2 ^ 52 + t) k 1074
+-- ---- by the fields
 
 -- below 1
 small : (t k : ℕ) → t < 2 ^ 52 → k < 1022 → (2 ^ 52 + t) * 2 ^ k < 2 ^ 1074
@@ -133,10 +119,7 @@ negative (suc k) t = go (eqb (suc k) 2047)
     go true = top (eqb t 0)
     go false = cut-negative (odd 53 true (2 ^ 52 + t) k 1074) ((2 ^ 52 + t) * 2 ^ k) (2 ^ 1074) (odd-sign 53 true (2 ^ 52 + t) k 1074)
 
--- ---- a number and its fields, where the exponent is read with the sign bit above it
-pub fields : (x : Float) → T (fits binary64 x) → let b = toBits binary64 x in x ≡ at (leb (2 ^ 63) b) (b % 2 ^ 63 / 2 ^ 52) (b % 2 ^ 52)
-fields x h = sym (ofBits-toBits binary64 x h) ∙ bits-is (toBits binary64 x)
-
+-- ---- the exponent is read with the sign bit above it
 plain-field : (b : ℕ) → b / 2 ^ 52 < 2048 → b % 2 ^ 63 / 2 ^ 52 ≡ b / 2 ^ 52
 plain-field b h = omega arith
 

@@ -1,5 +1,4 @@
 -- Sine and cosine: s_sin.c and s_cos.c of fdlibm 5.3. Definitions only.
-use Prim.Native.Nat.{ℕ}
 use mathlib.Core.Bool.{true, false}
 use lib.Dec.{leb, eqb}
 use lib.Ieee.{Float, nan, neg}

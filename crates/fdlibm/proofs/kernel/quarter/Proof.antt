@@ -2,8 +2,8 @@
 use borrow.Author.Needs.{needs}
 use borrow.Author.Tests.{lt-ltb, le-ltb}
 use native.Mathlib.Omega.{arith}
-use mathlib.Core.Path.{_≡_, sym, ap, _∙_, subst}
-use Prim.Native.Nat.{ℕ, _-_, _*_, _%_, _^_, _≤_, _<_}
+use mathlib.Core.Path.{_≡_, sym, subst}
+use Prim.Native.Nat.{ℕ, _-_, _*_, _%_, _^_, _≤_}
 use native.Mathlib.Nat.{mod-eq-of-lt}
 use mathlib.Core.Bool.{Bool, not}
 use lib.Dec.{T}

@@ -1,7 +1,7 @@
 -- `truncated` meets its contract, case by case of the exponent. Assumes nothing.
 use borrow.Author.Needs.{needs}
 use native.Mathlib.Omega.{arith}
-use mathlib.Core.Path.{_≡_, sym, ap, subst}
+use mathlib.Core.Path.{sym, ap, subst}
 use Prim.Native.Nat.{ℕ, _+_, _^_, _<_}
 use lib.Dec.{T}
 use lib.Bits.{bitAnd, and-le-r}
