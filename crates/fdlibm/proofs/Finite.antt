@@ -22,8 +22,9 @@ use Rattle.fdlibm.specs.declared.reduction.Difference.{Difference}
 use Rattle.fdlibm.specs.declared.reduction.Reduced.{Reduced}
 use Rattle.fdlibm.specs.declared.reduction.Reduced.the-variants.{To, Beyond}
 use Rattle.fdlibm.specs.Words.{ixOf, signOf, exponentOf}
-use Rattle.fdlibm.specs.Kernel.{one, half, S1, sinSeries, cosSeries, kernelSin, kernelCos, qxOf}
-use Rattle.fdlibm.specs.Reduction.{npio2hw, invpio2, pio2-2, pio2-2t, pio2-3, pio2-3t, aboveOf, belowOf, firstOf, nextOf, carefulOf, settledOf, mediumOf, backOf, remPio2}
+use Rattle.fdlibm.specs.Kernel.{sinSeries, cosSeries, kernelSin, kernelCos, qxOf}
+use Rattle.fdlibm.specs.Reduction.{npio2hw, aboveOf, belowOf, firstOf, nextOf, carefulOf, settledOf, mediumOf, backOf, remPio2}
+use Rattle.fdlibm.specs.Constants.{one, half, S1, invpio2, pio2-2, pio2-2t, pio2-3, pio2-3t}
 use Rattle.fdlibm.specs.Sine.{sinAt, cosAt, sinOf, cosOf}
 use Rattle.fdlibm.proofs.Fields.{at, fields, normal}
 use Rattle.fdlibm.proofs.Truncation.{cut-most}

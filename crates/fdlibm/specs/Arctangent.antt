@@ -8,36 +8,19 @@ use Rattle.loops.specs.Loop.{pick}
 use Rattle.number.specs.Operators.{_⊕_, _⊖_, _⊗_, _⊘_, bits}
 use Rattle.number.specs.Helpers.{absOf}
 use Rattle.fdlibm.specs.Words.{ixOf, signOf, magnitudeOf}
-use Rattle.fdlibm.specs.Kernel.{one, half}
+use Rattle.fdlibm.specs.Constants.{one, half, two, three-halves, atanhi0, atanhi1, atanhi2, atanhi3, atanlo0, atanlo1, atanlo2, atanlo3, aT0, aT1, aT2, aT3, aT4, aT5, aT6, aT7, aT8, aT9, aT10, tiny, pi-o-4, pi-o-2, pi, pi-lo, three, minus-three, minus-one}
 
 -- s1 = z*(aT[0]+w*(aT[2]+w*(aT[4]+w*(aT[6]+w*(aT[8]+w*aT[10]))))), for w = z*z
 abbrev pub evens : Float → Float → Float
-evens z w =
-    z
-    ⊗ (bits 0x3fd555555555550d
-    ⊕ w
-    ⊗ (bits 0x3fc24924920083ff
-    ⊕ w
-    ⊗ (bits 0x3fb745cdc54c206e ⊕ w ⊗ (bits 0x3fb10d66a0d03d51 ⊕ w ⊗ (bits 0x3fa97b4b24760deb ⊕ w ⊗ bits 0x3f90ad3ae322da11)))))
+evens z w = z ⊗ (aT0 ⊕ w ⊗ (aT2 ⊕ w ⊗ (aT4 ⊕ w ⊗ (aT6 ⊕ w ⊗ (aT8 ⊕ w ⊗ aT10)))))
 
 -- s2 = w*(aT[1]+w*(aT[3]+w*(aT[5]+w*(aT[7]+w*aT[9]))))
 abbrev pub odds : Float → Float
-odds w =
-    w
-    ⊗ (bits 0xbfc999999998ebc4
-    ⊕ w
-    ⊗ (bits 0xbfbc71c6fe231671 ⊕ w ⊗ (bits 0xbfb3b0f2af749a6d ⊕ w ⊗ (bits 0xbfadde2d52defd9a ⊕ w ⊗ bits 0xbfa2b4442c6a6c2f))))
+odds w = w ⊗ (aT1 ⊕ w ⊗ (aT3 ⊕ w ⊗ (aT5 ⊕ w ⊗ (aT7 ⊕ w ⊗ aT9))))
 
 -- s1 + s2, for z = x*x
 abbrev pub seriesOf : Float → Float
 seriesOf x = evens (x ⊗ x) (x ⊗ x ⊗ (x ⊗ x)) ⊕ odds (x ⊗ x ⊗ (x ⊗ x))
-
--- atanhi[3] and atanlo[3]: pi/2 and what is left of it
-abbrev pub atanhi3 : Float
-atanhi3 = bits 0x3ff921fb54442d18
-
-abbrev pub atanlo3 : Float
-atanlo3 = bits 0x3c91a62633145c07
 
 -- |x| >= 2^66: x + x for a NaN, else a right angle
 unfoldable pub farOf : Float → ℕ → Float
@@ -50,12 +33,10 @@ placedOf hi lo x = hi ⊖ (x ⊗ seriesOf x ⊖ lo ⊖ x)
 -- the cases id = 0 to 3, for t = |x| of high word ix: below 11/16, 19/16, 39/16, and above
 unfoldable pub foldedOf : Float → ℕ → Float
 foldedOf t ix =
-    let two = bits 0x4000000000000000 in
-    let three-halves = bits 0x3ff8000000000000 in
-    pick (ltb ix 0x3fe60000) (placedOf (bits 0x3fddac670561bb4f) (bits 0x3c7a2b7f222f65e2) ((two ⊗ t ⊖ one) ⊘ (two ⊕ t)))
-    (pick (ltb ix 0x3ff30000) (placedOf (bits 0x3fe921fb54442d18) (bits 0x3c81a62633145c07) ((t ⊖ one) ⊘ (t ⊕ one)))
-    (pick (ltb ix 0x40038000) (placedOf (bits 0x3fef730bd281f69b) (bits 0x3c7007887af0cbbd) ((t ⊖ three-halves) ⊘ (one ⊕ three-halves ⊗ t)))
-    (placedOf atanhi3 atanlo3 (bits 0xbff0000000000000 ⊘ t))))
+    pick (ltb ix 0x3fe60000) (placedOf atanhi0 atanlo0 ((two ⊗ t ⊖ one) ⊘ (two ⊕ t)))
+    (pick (ltb ix 0x3ff30000) (placedOf atanhi1 atanlo1 ((t ⊖ one) ⊘ (t ⊕ one)))
+    (pick (ltb ix 0x40038000) (placedOf atanhi2 atanlo2 ((t ⊖ three-halves) ⊘ (one ⊕ three-halves ⊗ t)))
+    (placedOf atanhi3 atanlo3 (minus-one ⊘ t))))
 
 -- atan(x). `huge + x > one` is true of the small x
 unfoldable pub atanOf : Float → Float
@@ -64,21 +45,6 @@ atanOf x =
     let z = foldedOf (absOf x) ix in
     pick (leb 0x44100000 ix) (farOf x (signOf x))
     (pick (ltb ix 0x3fdc0000) (pick (ltb ix 0x3e200000) x (x ⊖ x ⊗ seriesOf x)) (pick (eqb (signOf x) 0) z (neg z)))
-
-abbrev pub tiny : Float
-tiny = bits 0x01a56e1fc2f8f359
-
-abbrev pub pi-o-4 : Float
-pi-o-4 = bits 0x3fe921fb54442d18
-
-abbrev pub pi-o-2 : Float
-pi-o-2 = bits 0x3ff921fb54442d18
-
-abbrev pub pi : Float
-pi = bits 0x400921fb54442d18
-
-abbrev pub pi-lo : Float
-pi-lo = bits 0x3ca1a62633145c07
 
 -- switch (m)
 unfoldable pub bySigns : ℕ → Float → Float → Float → Float → Float
@@ -96,8 +62,8 @@ upright sign = pick (eqb sign 0) (pi-o-2 ⊕ tiny) (neg pi-o-2 ⊖ tiny)
 unfoldable pub farAlong : ℕ → ℕ → Float
 farAlong iy m =
     pick (eqb iy 0x7ff00000)
-    (bySigns m (pi-o-4 ⊕ tiny) (neg pi-o-4 ⊖ tiny) (bits 0x4008000000000000 ⊗ pi-o-4 ⊕ tiny) (bits 0xc008000000000000 ⊗ pi-o-4 ⊖ tiny))
-    (bySigns m (bits 0) (bits 0xbff0000000000000 ⊗ bits 0) (pi ⊕ tiny) (neg pi ⊖ tiny))
+    (bySigns m (pi-o-4 ⊕ tiny) (neg pi-o-4 ⊖ tiny) (three ⊗ pi-o-4 ⊕ tiny) (minus-three ⊗ pi-o-4 ⊖ tiny))
+    (bySigns m (bits 0) (minus-one ⊗ bits 0) (pi ⊕ tiny) (neg pi ⊖ tiny))
 
 -- z, for k = (iy - ix) >> 20: k > 60, hx < 0 with k < -60, and atan(fabs(y/x))
 unfoldable pub quotientOf : Float → Float → ℕ → ℕ → ℕ → Float

@@ -6,23 +6,11 @@ use lib.Ieee.{Float}
 use Rattle.loops.specs.Loop.{pick}
 use Rattle.number.specs.Operators.{_⊕_, _⊖_, _⊗_, bits}
 use Rattle.fdlibm.specs.Words.{ixOf}
-
-abbrev pub one : Float
-one = bits 0x3ff0000000000000
-
-abbrev pub half : Float
-half = bits 0x3fe0000000000000
-
-abbrev pub S1 : Float
-S1 = bits 0xbfc5555555555549
+use Rattle.fdlibm.specs.Constants.{one, half, S1, S2, S3, S4, S5, S6, C1, C2, C3, C4, C5, C6}
 
 -- r = S2 + z*(S3 + z*(S4 + z*(S5 + z*S6)))
 abbrev pub sinSeries : Float → Float
-sinSeries z =
-    bits 0x3f8111111110f8a6
-    ⊕ z
-    ⊗ (bits 0xbf2a01a019c161d5
-    ⊕ z ⊗ (bits 0x3ec71de357b1fe7d ⊕ z ⊗ (bits 0xbe5ae5e68a2b9ceb ⊕ z ⊗ bits 0x3de5d93a5acfd57c)))
+sinSeries z = S2 ⊕ z ⊗ (S3 ⊕ z ⊗ (S4 ⊕ z ⊗ (S5 ⊕ z ⊗ S6)))
 
 -- __kernel_sin(x, y, iy): the sine of x + y; tail is iy != 0, and without it y is not read. `(int)x == 0` is true of the small x
 unfoldable pub kernelSin : Float → Float → Bool → Float
@@ -30,17 +18,11 @@ kernelSin x y tail =
     let z = x ⊗ x in
     let v = z ⊗ x in
     let r = sinSeries z in
-    pick (ltb (ixOf x) 0x3e400000) x (pick tail (x ⊖ (z ⊗ (half ⊗ y ⊖ v ⊗ r) ⊖ y ⊖ v ⊗ S1)) (x ⊕ v ⊗ (S1 ⊕ z ⊗ r)))
+    pick (ltb (ixOf x) 0x3e400000) x (pick tail (x ⊖ ((z ⊗ (half ⊗ y ⊖ v ⊗ r) ⊖ y) ⊖ v ⊗ S1)) (x ⊕ v ⊗ (S1 ⊕ z ⊗ r)))
 
 -- r = z*(C1 + z*(C2 + z*(C3 + z*(C4 + z*(C5 + z*C6)))))
 abbrev pub cosSeries : Float → Float
-cosSeries z =
-    z
-    ⊗ (bits 0x3fa555555555554c
-    ⊕ z
-    ⊗ (bits 0xbf56c16c16c15177
-    ⊕ z
-    ⊗ (bits 0x3efa01a019cb1590 ⊕ z ⊗ (bits 0xbe927e4f809c52ad ⊕ z ⊗ (bits 0x3e21ee9ebdb4b1c4 ⊕ z ⊗ bits 0xbda8fae9be8838d4)))))
+cosSeries z = z ⊗ (C1 ⊕ z ⊗ (C2 ⊕ z ⊗ (C3 ⊕ z ⊗ (C4 ⊕ z ⊗ (C5 ⊕ z ⊗ C6)))))
 
 -- qx: 0.28125, or about x/4: __HI(qx) = ix - 0x00200000, __LO(qx) = 0
 unfoldable pub qxOf : ℕ → Float
@@ -53,5 +35,6 @@ kernelCos x y =
     let z = x ⊗ x in
     let r = cosSeries z in
     let qx = qxOf ix in
-    pick (ltb ix 0x3e400000) one
-    (pick (ltb ix 0x3fd33333) (one ⊖ (half ⊗ z ⊖ (z ⊗ r ⊖ x ⊗ y))) (one ⊖ qx ⊖ (half ⊗ z ⊖ qx ⊖ (z ⊗ r ⊖ x ⊗ y))))
+    let hz = half ⊗ z ⊖ qx in
+    let a = one ⊖ qx in
+    pick (ltb ix 0x3e400000) one (pick (ltb ix 0x3fd33333) (one ⊖ (half ⊗ z ⊖ (z ⊗ r ⊖ x ⊗ y))) (a ⊖ (hz ⊖ (z ⊗ r ⊖ x ⊗ y))))

@@ -1,4 +1,5 @@
 pub mod Words
+pub mod Constants
 pub mod Kernel
 pub mod Reduction
 pub mod Sine

@@ -14,7 +14,7 @@ use Rattle.fdlibm.specs.declared.reduction.Difference.{Difference}
 use Rattle.fdlibm.specs.declared.reduction.Reduced.{Reduced}
 use Rattle.fdlibm.specs.declared.reduction.Reduced.the-variants.{To, Beyond}
 use Rattle.fdlibm.specs.Words.{ixOf, signOf, exponentOf}
-use Rattle.fdlibm.specs.Kernel.{half}
+use Rattle.fdlibm.specs.Constants.{half, invpio2, pio2-1, pio2-1t, pio2-2, pio2-2t, pio2-3, pio2-3t}
 
 -- npio2_hw, the high words of n pi/2 for n = 1 to 32, after a 0 for n = 0, so that n is the index
 abbrev pub npio2hw : List ℕ
@@ -23,28 +23,6 @@ npio2hw =
     ∷ 0x4031475c ∷ 0x4032d97c ∷ 0x40346b9c ∷ 0x4035fdbb ∷ 0x40378fdb ∷ 0x403921fb ∷ 0x403ab41b ∷ 0x403c463a ∷ 0x403dd85a ∷ 0x403f6a7a
     ∷ 0x40407e4c ∷ 0x4041475c ∷ 0x4042106c ∷ 0x4042d97c ∷ 0x4043a28c ∷ 0x40446b9c ∷ 0x404534ac ∷ 0x4045fdbb ∷ 0x4046c6cb ∷ 0x40478fdb
     ∷ 0x404858eb ∷ 0x404921fb ∷ []
-
--- 53 digits of 2/pi; 33 digits of pi/2 and what is left; the second 33 and what is left; the third 33 and what is left
-abbrev pub invpio2 : Float
-invpio2 = bits 0x3fe45f306dc9c883
-
-abbrev pub pio2-1 : Float
-pio2-1 = bits 0x3ff921fb54400000
-
-abbrev pub pio2-1t : Float
-pio2-1t = bits 0x3dd0b4611a626331
-
-abbrev pub pio2-2 : Float
-pio2-2 = bits 0x3dd0b4611a600000
-
-abbrev pub pio2-2t : Float
-pio2-2t = bits 0x3ba3198a2e037073
-
-abbrev pub pio2-3 : Float
-pio2-3 = bits 0x3ba3198a2e000000
-
-abbrev pub pio2-3t : Float
-pio2-3t = bits 0x397b839a252049c1
 
 -- |x| < 3pi/4, the special case with n = 1, for a positive x: one step, or two where the high word is that of pi/2
 unfoldable pub aboveOf : Float → ℕ → Reduction
