@@ -1,16 +1,18 @@
 //! What every program that replays recorded outside results shares.
 //!
 //! A list is the program's standard input: records of one size, each some 8-byte big-endian words. A program reads
-//! a record with `next`, takes its words with `word`, counts what it found with `counted`, and writes one line with
-//! `report`: `square roots: 4123 compared, 0 differ`.
+//! a record with `next`, takes its words with `word`, counts what it found with `counted`, or `ended` where there was none,
+//! and writes one line with `report`: `square roots: 4123 compared, 0 differ`.
 ghost use mathlib.Core.Path.{_≡_};
+ghost use mathlib.Core.Bool.{true};
 ghost use Prim.Native.Nat.{_+_, _≤_, _<_};
 ghost use lib.ListN.{length, getD};
 ghost use Rattle.replay.specs.Word.{halfAt, wordAt};
-ghost use Rattle.replay.specs.Tally.{countedOf};
+ghost use Rattle.replay.specs.Tally.{countedOf, endedOf};
 
-// How many records were compared, how many of them differ, and which was the first that did (from 0).
+// How many records were compared, how many of them differ, which was the first that did (from 0), and whether the list goes on.
 pub struct Tally {
+    pub more: bool,
     pub compared: u64,
     pub differ: u64,
     pub first: u64,
@@ -18,9 +20,10 @@ pub struct Tally {
 
 // Nothing compared yet.
 pub fn none() -> Tally
-    ensures { λ r. ⌜ r ≡ record { compared = 0; differ = 0; first = 0 } ⌝ }
+    ensures { λ r. ⌜ r ≡ record { more = true; compared = 0; differ = 0; first = 0 } ⌝ }
 {
     Tally {
+        more: true,
         compared: 0,
         differ: 0,
         first: 0,
@@ -34,22 +37,37 @@ pub fn counted(t: Tally, same: bool) -> Tally
     let compared = std::num::wrapping_add_u64(t.compared, 1);
     if same {
         Tally {
+            more: t.more,
             compared,
             differ: t.differ,
             first: t.first,
         }
     } else if t.differ == 0 {
         Tally {
+            more: t.more,
             compared,
             differ: 1,
             first: t.compared,
         }
     } else {
         Tally {
+            more: t.more,
             compared,
             differ: std::num::wrapping_add_u64(t.differ, 1),
             first: t.first,
         }
+    }
+}
+
+// The same tally, at the end of the list.
+pub fn ended(t: Tally) -> Tally
+    ensures { λ r. ⌜ r ≡ endedOf t ⌝ }
+{
+    Tally {
+        more: false,
+        compared: t.compared,
+        differ: t.differ,
+        first: t.first,
     }
 }
 

@@ -1,5 +1,4 @@
 -- `replay::counted` meets its contract. Assumes nothing.
-use mathlib.Core.Path.{_≡_, refl}
 use borrow.Author.Tests.{eq-eqb, ne-eqb}
 use Rattle.replay.proofs.counted.Statement.{statement}
 use Rattle.replay.proofs.counted.Tie as tie
