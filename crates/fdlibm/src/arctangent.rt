@@ -1,7 +1,7 @@
 //! The parts of the arc tangent, s_atan.c, and of the arc tangent of two arguments, e_atan2.c.
 ghost use mathlib.Core.Path.{_≡_};
 ghost use Prim.Native.Nat.{_^_, _<_};
-ghost use Rattle.fdlibm.specs.Arctangent.{seriesOf, farOf, placedOf, foldedOf, bySigns, onAxis, upright, farAlong, quotientOf};
+ghost use Rattle.fdlibm.specs.Arctangent.{seriesOf, farOf, placedOf, foldedOf, bySigns, onAxis, upright, farAlong, quotientOf, aroundOf};
 
 const ATANHI_0: f64 = 4.63647609000806093515e-01;
 
@@ -51,9 +51,9 @@ const PI_O_4: f64 = 7.8539816339744827900E-01;
 
 const PI_O_2: f64 = 1.5707963267948965580E+00;
 
-pub const PI: f64 = 3.1415926535897931160E+00;
+const PI: f64 = 3.1415926535897931160E+00;
 
-pub const PI_LO: f64 = 1.2246467991473531772E-16;
+const PI_LO: f64 = 1.2246467991473531772E-16;
 
 // 1 - atan(x) / x, by the odd and the even coefficients apart.
 pub fn atan_series(x: f64) -> f64
@@ -162,4 +162,11 @@ pub fn quotient(y: f64, x: f64, x_sign: u64, iy: u64, ix: u64) -> f64
         }
     }
     crate::atan(number::abs(y / x))
+}
+
+// The angle whose arc tangent of |y / x| is z, in the quarter of the plane that m names.
+pub fn around(m: u64, z: f64) -> f64
+    ensures { λ r. ⌜ r ≡ aroundOf m z ⌝ }
+{
+    by_signs(m, z, -z, PI - (z - PI_LO), (z - PI_LO) - PI)
 }

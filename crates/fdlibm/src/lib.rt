@@ -126,11 +126,5 @@ pub fn atan2(y: f64, x: f64) -> f64
         return arctangent::upright(y_sign);
     }
     let z = arctangent::quotient(y, x, x_bits >> 63, iy, ix);
-    arctangent::by_signs(
-        m,
-        z,
-        -z,
-        arctangent::PI - (z - arctangent::PI_LO),
-        (z - arctangent::PI_LO) - arctangent::PI,
-    )
+    arctangent::around(m, z)
 }

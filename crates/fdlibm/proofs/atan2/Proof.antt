@@ -64,12 +64,12 @@ returns-7 c = rw (c .upright2 .ensures, ← ne-self (c .before .before .before .
 quotient-requires : tie.Need-quotient-requires
 quotient-requires c κs = (word (c .before .before .before .before .before .to-bits2 .result), word (c .before .before .before .before .before .before .to-bits .result))
 
-by-signs-requires : tie.Need-by-signs-requires
-by-signs-requires c κs = search needs
+around-requires : tie.Need-around-requires
+around-requires c κs = search needs
 
 returns-8 : tie.Need-returns-8
 unfolding atan2Of
-returns-8 c = rw (c .by-signs .ensures, ← ne-self (c .before .before .before .before .before .before .before .before .before .before .before .args .x), ← ne-self (c .before .before .before .before .before .before .before .before .before .before .before .args .y), c .before .before .before .before .before .before .before .before .before .before .if1 .left, c .before .before .before .before .before .before .before .before .before .if2 .left, ← c .before .before .before .before .before .before .before .to-bits2 .ensures, ← c .before .before .before .before .before .before .before .before .to-bits .ensures, ne-eqb _ _ (c .before .before .before .before .before .before .if3 .left), ne-eqb _ _ (c .before .before .before .before .before .if4 .left), ne-eqb _ _ (c .before .before .before .before .if5 .left), ne-eqb _ _ (c .before .before .before .if6 .left), ne-eqb _ _ (c .before .before .if7 .left), ← c .before .quotient .ensures)
+returns-8 c = rw (c .around .ensures, ← ne-self (c .before .before .before .before .before .before .before .before .before .before .before .args .x), ← ne-self (c .before .before .before .before .before .before .before .before .before .before .before .args .y), c .before .before .before .before .before .before .before .before .before .before .if1 .left, c .before .before .before .before .before .before .before .before .before .if2 .left, ← c .before .before .before .before .before .before .before .to-bits2 .ensures, ← c .before .before .before .before .before .before .before .before .to-bits .ensures, ne-eqb _ _ (c .before .before .before .before .before .before .if3 .left), ne-eqb _ _ (c .before .before .before .before .before .if4 .left), ne-eqb _ _ (c .before .before .before .before .if5 .left), ne-eqb _ _ (c .before .before .before .if6 .left), ne-eqb _ _ (c .before .before .if7 .left), ← c .before .quotient .ensures)
 
 pub atan2-spec : {M : Type 1} → statement M
 atan2-spec =
@@ -90,5 +90,5 @@ atan2-spec =
     upright-requires-2
     returns-7
     quotient-requires
-    by-signs-requires
+    around-requires
     returns-8)
