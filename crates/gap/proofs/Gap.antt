@@ -27,6 +27,7 @@ use Rattle.geometry.specs.declared.tolerance.Tolerance.{Tolerance}
 use Rattle.geometry.specs.Tolerance.{leastConfusion, one, toleranceFit}
 use Rattle.geometry.specs.Vector.{squareMagnitudeOf, magnitudeOf}
 use Rattle.geometry.specs.Point.{distanceOf, fromOf, squareOf, exactSquare}
+use Rattle.gap.specs.Gap.{ExactlyWithin}
 use Rattle.gap.proofs.Chain.{chain, final}
 
 -- ---- the order of the two points
@@ -221,7 +222,7 @@ large c true v low = absurd (not-le-of-lt (pow-pos 1034) (le-trans (le-add-right
 -- then 2 ^ 50 times the exact squared gap is at most 2 ^ 50 + 1 times c squared, all as whole numbers of units of 2 ^ -1074 (squared):
 -- however the nine roundings fall, the true gap exceeds c by less than one part in 2 ^ 51.
 pub exact-gap : (p q : Point3D) (c : Float) → PointFits p → PointFits q → T (fits binary64 c) → T (leastConfusion ≤? c) → T (c ≤? one) → T (distanceOf p q ≤? c)
-    → 2 ^ 50 * exactSquare p q ≤ (2 ^ 50 + 1) * (mag c * mag c)
+    → ExactlyWithin p q c
 exact-gap p q c fp fq fc low high l =
     let h = finite-between c low high in
     let b = large c (neg? c) (whole c fc h) low in

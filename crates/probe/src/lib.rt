@@ -1,10 +1,11 @@
 //! Functions that only comparisons with outside programs call, exported to C. A slice passes as a pointer and a length.
 //!
-//! The input holds the matrix row by row, the right side and tol; a solution goes to the front of the output.
+//! Solvers: the input holds the matrix row by row, the right side and tol; a solution goes to the front of the output.
 //! The answer: 1 solved, 0 gave up, 2 a slice too short. Where it is not 1 the output is as it was.
 ghost use mathlib.Core.Path.{_≡_};
 ghost use Prim.Native.Nat.{_+_, _≤_};
 ghost use lib.ListN.{length};
+ghost use Rattle.fdlibm.specs.Arctangent.{atanOf};
 ghost use Rattle.probe.specs.Probe.{rowAt, probed, probe2Of, probe3Of, probe4Of};
 
 fn row2(input: &[f64], at: usize) -> [f64; 2]
@@ -107,4 +108,12 @@ pub extern "C" fn probe_solve_4x4(input: &[f64], output: &mut [f64]) -> u64
         }
         solve::Solved4::Singular => 0,
     }
+}
+
+// The arc tangent.
+#[no_mangle]
+pub extern "C" fn probe_atan(x: f64) -> f64
+    ensures { λ r. ⌜ r ≡ atanOf x ⌝ }
+{
+    fdlibm::atan(x)
 }

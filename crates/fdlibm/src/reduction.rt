@@ -1,0 +1,257 @@
+//! The reduction of an angle by multiples of pi/2: e_rem_pio2.c up to its medium range.
+ghost use mathlib.Core.Path.{_≡_};
+ghost use lib.Ieee.{toUnsigned};
+ghost use Rattle.fdlibm.specs.Reduction.{remPio2, aboveOf, belowOf, mediumOf, backOf, firstOf, nextOf, carefulOf, settledOf};
+
+// The quadrant, n modulo 4, and the angle that is left: y0 with its tail y1.
+pub struct Reduction {
+    pub quadrant: u64,
+    pub y0: f64,
+    pub y1: f64,
+}
+
+// What the reduction answers; the angles beyond reach have no answer.
+pub enum Reduced {
+    To(Reduction),
+    Beyond,
+}
+
+// A difference r - w that is not taken yet.
+pub struct Difference {
+    pub r: f64,
+    pub w: f64,
+}
+
+// The high words of n pi/2: 0 for n = 0, then the C's table, for n = 1 to 32.
+const NPIO2_HW: [u64; 33] = [
+    0x0000_0000,
+    0x3ff9_21fb,
+    0x4009_21fb,
+    0x4012_d97c,
+    0x4019_21fb,
+    0x401f_6a7a,
+    0x4022_d97c,
+    0x4025_fdbb,
+    0x4029_21fb,
+    0x402c_463a,
+    0x402f_6a7a,
+    0x4031_475c,
+    0x4032_d97c,
+    0x4034_6b9c,
+    0x4035_fdbb,
+    0x4037_8fdb,
+    0x4039_21fb,
+    0x403a_b41b,
+    0x403c_463a,
+    0x403d_d85a,
+    0x403f_6a7a,
+    0x4040_7e4c,
+    0x4041_475c,
+    0x4042_106c,
+    0x4042_d97c,
+    0x4043_a28c,
+    0x4044_6b9c,
+    0x4045_34ac,
+    0x4045_fdbb,
+    0x4046_c6cb,
+    0x4047_8fdb,
+    0x4048_58eb,
+    0x4049_21fb,
+];
+
+const INVPIO2: f64 = 6.36619772367581382433e-01;
+
+const PIO2_1: f64 = 1.57079632673412561417e+00;
+
+const PIO2_1T: f64 = 6.07710050650619224932e-11;
+
+const PIO2_2: f64 = 6.07710050630396597660e-11;
+
+const PIO2_2T: f64 = 2.02226624879595063154e-21;
+
+const PIO2_3: f64 = 2.02226624871116645580e-21;
+
+const PIO2_3T: f64 = 8.47842766036889956997e-32;
+
+// The whole part, as C's cast to int has it, of a number that is not negative; 0 of a negative one.
+fn truncated(x: f64) -> u64
+    ensures { λ r. ⌜ r ≡ toUnsigned 31 x ⌝ }
+{
+    if x != x {
+        return 0;
+    }
+    let bits: u64 = f64::to_bits(x);
+    let exponent = bits >> 52;
+    if exponent < 1023 {
+        0
+    } else if exponent < 1054 {
+        ((bits & 0xf_ffff_ffff_ffff) + 0x10_0000_0000_0000) >> (1075 - exponent)
+    } else if exponent < 2048 {
+        0x7fff_ffff
+    } else {
+        0
+    }
+}
+
+// An angle above pi/4 and below 3pi/4.
+fn near_above(x: f64, ix: u64) -> Reduction
+    ensures { λ r. ⌜ r ≡ aboveOf x ix ⌝ }
+{
+    let z = x - PIO2_1;
+    if ix == 0x3ff9_21fb {
+        let v = z - PIO2_2;
+        let y0 = v - PIO2_2T;
+        Reduction {
+            quadrant: 1,
+            y0,
+            y1: (v - y0) - PIO2_2T,
+        }
+    } else {
+        let y0 = z - PIO2_1T;
+        Reduction {
+            quadrant: 1,
+            y0,
+            y1: (z - y0) - PIO2_1T,
+        }
+    }
+}
+
+// An angle below -pi/4 and above -3pi/4; n is -1.
+fn near_below(x: f64, ix: u64) -> Reduction
+    ensures { λ r. ⌜ r ≡ belowOf x ix ⌝ }
+{
+    let z = x + PIO2_1;
+    if ix == 0x3ff9_21fb {
+        let v = z + PIO2_2;
+        let y0 = v + PIO2_2T;
+        Reduction {
+            quadrant: 3,
+            y0,
+            y1: (v - y0) + PIO2_2T,
+        }
+    } else {
+        let y0 = z + PIO2_1T;
+        Reduction {
+            quadrant: 3,
+            y0,
+            y1: (z - y0) + PIO2_1T,
+        }
+    }
+}
+
+// t less n pi/2 with 33 digits of pi/2 taken exactly, the rest in w.
+fn first_step(t: f64, n: f64) -> Difference
+    ensures { λ r. ⌜ r ≡ firstOf t n ⌝ }
+{
+    Difference {
+        r: t - n * PIO2_1,
+        w: n * PIO2_1T,
+    }
+}
+
+// 33 digits more: part holds them, and rest what comes after them.
+fn next_step(d: Difference, n: f64, part: f64, rest: f64) -> Difference
+    ensures { λ r. ⌜ r ≡ nextOf d n part rest ⌝ }
+{
+    let t = d.r;
+    let w = n * part;
+    let r = t - w;
+    Difference {
+        r,
+        w: n * rest - ((t - r) - w),
+    }
+}
+
+// The second step where more than 16 digits cancelled, and the third where more than 49 did.
+fn careful(d: Difference, n: f64, ix: u64) -> Difference
+    ensures { λ r. ⌜ r ≡ carefulOf d n ix ⌝ }
+{
+    let j = ix >> 20;
+    let e = (number::to_bits(d.r - d.w) >> 52) & 0x7ff;
+    if j <= e + 16 {
+        return d;
+    }
+    let d2 = next_step(d, n, PIO2_2, PIO2_2T);
+    let e2 = (number::to_bits(d2.r - d2.w) >> 52) & 0x7ff;
+    if j <= e2 + 49 {
+        return d2;
+    }
+    next_step(d2, n, PIO2_3, PIO2_3T)
+}
+
+// The quick test: an n below 32 whose n pi/2 has another high word than the angle needs no second step.
+fn settled(d: Difference, whole: u64, n: f64, ix: u64) -> Difference
+    ensures { λ r. ⌜ r ≡ settledOf d whole n ix ⌝ }
+{
+    if whole < 32 {
+        let at = whole as usize;
+        let hw = NPIO2_HW[at];
+        if ix != hw {
+            return d;
+        }
+    }
+    careful(d, n, ix)
+}
+
+// A positive angle t in the medium range, of high word ix.
+fn medium(t: f64, ix: u64) -> Reduction
+    ensures { λ r. ⌜ r ≡ mediumOf t ix ⌝ }
+{
+    let whole = truncated(t * INVPIO2 + 0.5);
+    let n = whole as f64;
+    let d = settled(first_step(t, n), whole, n, ix);
+    let y0 = d.r - d.w;
+    Reduction {
+        quadrant: whole & 3,
+        y0,
+        y1: (d.r - y0) - d.w,
+    }
+}
+
+// The same for the angle of the other sign.
+fn turned_back(a: Reduction) -> Reduction
+    ensures { λ r. ⌜ r ≡ backOf a ⌝ }
+{
+    Reduction {
+        quadrant: (4 - (a.quadrant & 3)) & 3,
+        y0: -a.y0,
+        y1: -a.y1,
+    }
+}
+
+// An angle x less a multiple of pi/2: at most about pi/4 is left.
+pub fn rem_pio2(x: f64) -> Reduced
+    ensures { λ r. ⌜ r ≡ remPio2 x ⌝ }
+{
+    let bits = number::to_bits(x);
+    let ix = (bits >> 32) & 0x7fff_ffff;
+    let sign = bits >> 63;
+    if ix <= 0x3fe9_21fb {
+        Reduced::To(Reduction {
+            quadrant: 0,
+            y0: x,
+            y1: 0.0,
+        })
+    } else if ix < 0x4002_d97c {
+        if sign == 0 {
+            Reduced::To(near_above(x, ix))
+        } else {
+            Reduced::To(near_below(x, ix))
+        }
+    } else if ix <= 0x4139_21fb {
+        let a = medium(number::abs(x), ix);
+        if sign == 0 {
+            Reduced::To(a)
+        } else {
+            Reduced::To(turned_back(a))
+        }
+    } else if 0x7ff0_0000 <= ix {
+        Reduced::To(Reduction {
+            quadrant: 0,
+            y0: x - x,
+            y1: x - x,
+        })
+    } else {
+        Reduced::Beyond
+    }
+}
