@@ -1,0 +1,36 @@
+-- `analytic::analytic::cylinder_derivatives` meets its contract: each way out has its tests, and what it calls its own. Assumes nothing.
+use borrow.Author.Needs.{needs}
+use Rattle.analytic.specs.Analytic.{cylinderDerivatives}
+use Rattle.analytic.proofs.analytic.cylinder_derivatives.Statement.{statement}
+use Rattle.analytic.proofs.analytic.cylinder_derivatives.Tie as tie
+
+cos-requires : tie.Need-cos-requires
+cos-requires c κs = search needs
+
+sin-requires : tie.Need-sin-requires
+sin-requires c κs = search needs
+
+x-direction-requires : tie.Need-x-direction-requires
+x-direction-requires c κs = search needs
+
+y-direction-requires : tie.Need-y-direction-requires
+y-direction-requires c κs = search needs
+
+scale-requires : tie.Need-scale-requires
+scale-requires c κs = search needs
+
+scale-requires-2 : tie.Need-scale-requires-2
+scale-requires-2 c κs = search needs
+
+add-requires : tie.Need-add-requires
+add-requires c κs = search needs
+
+z-direction-requires : tie.Need-z-direction-requires
+z-direction-requires c κs = search needs
+
+returns : tie.Need-returns
+unfolding cylinderDerivatives
+returns c = rw (c .z-direction .ensures, c .before .add .ensures, c .before .before .scale2 .ensures, c .before .before .before .scale .ensures, c .before .before .before .before .y-direction .ensures, c .before .before .before .before .before .x-direction .ensures, c .before .before .before .before .before .before .sin .ensures, c .before .before .before .before .before .before .before .cos .ensures)
+
+pub cylinder-derivatives-spec : {M : Type 1} → statement M
+cylinder-derivatives-spec = tie.close (tie.spec cos-requires sin-requires x-direction-requires y-direction-requires scale-requires scale-requires-2 add-requires z-direction-requires returns)

@@ -1,0 +1,15 @@
+-- `analytic::analytic::plane_d0` meets its contract: each way out has its tests, and what it calls its own. Assumes nothing.
+use borrow.Author.Needs.{needs}
+use Rattle.analytic.specs.Analytic.{planeD0}
+use Rattle.analytic.proofs.analytic.plane_d0.Statement.{statement}
+use Rattle.analytic.proofs.analytic.plane_d0.Tie as tie
+
+point-at-requires : tie.Need-point-at-requires
+point-at-requires c κs = search needs
+
+returns : tie.Need-returns
+unfolding planeD0
+returns c = rw (c .point-at .ensures)
+
+pub plane-d0-spec : {M : Type 1} → statement M
+plane-d0-spec = tie.close (tie.spec point-at-requires returns)

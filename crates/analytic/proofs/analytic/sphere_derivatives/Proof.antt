@@ -1,0 +1,63 @@
+-- `analytic::analytic::sphere_derivatives` meets its contract: each way out has its tests, and what it calls its own. Assumes nothing.
+use borrow.Author.Needs.{needs}
+use Rattle.analytic.specs.Analytic.{sphereDerivatives}
+use Rattle.analytic.proofs.analytic.sphere_derivatives.Statement.{statement}
+use Rattle.analytic.proofs.analytic.sphere_derivatives.Tie as tie
+
+x-direction-requires : tie.Need-x-direction-requires
+x-direction-requires c κs = search needs
+
+y-direction-requires : tie.Need-y-direction-requires
+y-direction-requires c κs = search needs
+
+z-direction-requires : tie.Need-z-direction-requires
+z-direction-requires c κs = search needs
+
+sin-requires : tie.Need-sin-requires
+sin-requires c κs = search needs
+
+cos-requires : tie.Need-cos-requires
+cos-requires c κs = search needs
+
+sin-requires-2 : tie.Need-sin-requires-2
+sin-requires-2 c κs = search needs
+
+cos-requires-2 : tie.Need-cos-requires-2
+cos-requires-2 c κs = search needs
+
+scale-requires : tie.Need-scale-requires
+scale-requires c κs = search needs
+
+scale-requires-2 : tie.Need-scale-requires-2
+scale-requires-2 c κs = search needs
+
+add-requires : tie.Need-add-requires
+add-requires c κs = search needs
+
+scale-requires-3 : tie.Need-scale-requires-3
+scale-requires-3 c κs = search needs
+
+scale-requires-4 : tie.Need-scale-requires-4
+scale-requires-4 c κs = search needs
+
+scale-requires-5 : tie.Need-scale-requires-5
+scale-requires-5 c κs = search needs
+
+add-requires-2 : tie.Need-add-requires-2
+add-requires-2 c κs = search needs
+
+scale-requires-6 : tie.Need-scale-requires-6
+scale-requires-6 c κs = search needs
+
+scale-requires-7 : tie.Need-scale-requires-7
+scale-requires-7 c κs = search needs
+
+add-requires-3 : tie.Need-add-requires-3
+add-requires-3 c κs = search needs
+
+returns : tie.Need-returns
+unfolding sphereDerivatives
+returns c = rw (c .add3 .ensures, c .before .scale7 .ensures, c .before .before .scale6 .ensures, c .before .before .before .add2 .ensures, c .before .before .before .before .scale5 .ensures, c .before .before .before .before .before .scale4 .ensures, c .before .before .before .before .before .before .scale3 .ensures, c .before .before .before .before .before .before .before .add .ensures, c .before .before .before .before .before .before .before .before .scale2 .ensures, c .before .before .before .before .before .before .before .before .before .scale .ensures, c .before .before .before .before .before .before .before .before .before .before .cos2 .ensures, c .before .before .before .before .before .before .before .before .before .before .before .sin2 .ensures, c .before .before .before .before .before .before .before .before .before .before .before .before .cos .ensures, c .before .before .before .before .before .before .before .before .before .before .before .before .before .sin .ensures, c .before .before .before .before .before .before .before .before .before .before .before .before .before .before .z-direction .ensures, c .before .before .before .before .before .before .before .before .before .before .before .before .before .before .before .y-direction .ensures, c .before .before .before .before .before .before .before .before .before .before .before .before .before .before .before .before .x-direction .ensures)
+
+pub sphere-derivatives-spec : {M : Type 1} → statement M
+sphere-derivatives-spec = tie.close (tie.spec x-direction-requires y-direction-requires z-direction-requires sin-requires cos-requires sin-requires-2 cos-requires-2 scale-requires scale-requires-2 add-requires scale-requires-3 scale-requires-4 scale-requires-5 add-requires-2 scale-requires-6 scale-requires-7 add-requires-3 returns)

@@ -1,0 +1,2 @@
+pub mod Analytic
+pub mod Surface

@@ -1,0 +1,19 @@
+-- `patch::patch::Window::bounded` meets its contract: each way out has its tests, and what it calls its own. Assumes nothing.
+use borrow.Author.Needs.{needs}
+use Rattle.patch.specs.Patch.{boundedOf}
+use Rattle.patch.proofs.patch.Window.bounded.Statement.{statement}
+use Rattle.patch.proofs.patch.Window.bounded.Tie as tie
+
+clamp-requires : tie.Need-clamp-requires
+clamp-requires c κs = search needs
+
+returns : tie.Need-returns
+unfolding boundedOf
+returns c = rw (c .if1 .taken)
+
+returns-2 : tie.Need-returns-2
+unfolding boundedOf
+returns-2 c = rw (c .before .if1 .left, ← c .clamp .ensures)
+
+pub bounded-spec : {M : Type 1} → statement M
+bounded-spec = tie.close (tie.spec clamp-requires returns returns-2)

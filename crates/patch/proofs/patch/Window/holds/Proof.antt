@@ -1,0 +1,19 @@
+-- `patch::patch::Window::holds` meets its contract: each way out has its tests, and what it calls its own. Assumes nothing.
+use Rattle.patch.specs.Patch.{windowHolds}
+use Rattle.patch.proofs.patch.Window.holds.Statement.{statement}
+use Rattle.patch.proofs.patch.Window.holds.Tie as tie
+
+returns : tie.Need-returns
+unfolding windowHolds
+returns c = rw (c .if1 .taken)
+
+returns-2 : tie.Need-returns-2
+unfolding windowHolds
+returns-2 c = rw (c .before .if2 .taken, c .before .before .before .if1 .left)
+
+returns-3 : tie.Need-returns-3
+unfolding windowHolds
+returns-3 c = rw (c .if2 .left, c .before .before .if1 .left)
+
+pub holds-spec : {M : Type 1} → statement M
+holds-spec = tie.close (tie.spec returns returns-2 returns-3)

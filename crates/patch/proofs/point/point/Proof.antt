@@ -1,0 +1,43 @@
+-- `patch::point::point` meets its contract: each way out has its tests, and what it calls its own. Assumes nothing.
+use borrow.Author.Tests.{not-false, not-true}
+use borrow.Author.Needs.{needs}
+use Rattle.patch.specs.Located.{locatedOf}
+use Rattle.patch.proofs.point.point.Statement.{statement}
+use Rattle.patch.proofs.point.point.Tie as tie
+
+fitness-requires : tie.Need-fitness-requires
+fitness-requires c κs = search needs
+
+enum-known-fitness : tie.Need-enum-known-fitness
+enum-known-fitness c = search needs
+
+enum-told : tie.Need-enum-told
+enum-told c = search needs
+
+is-finite-requires : tie.Need-is-finite-requires
+is-finite-requires c κs = search needs
+
+returns : tie.Need-returns
+unfolding locatedOf
+returns c = rw (← c .before .before .before .before .fitness .ensures, c .before .before .enum-told .given .1, ← c .before .is-finite .ensures, not-true (c .before .is-finite .result) (c .if1 .taken))
+
+is-finite-requires-2 : tie.Need-is-finite-requires-2
+is-finite-requires-2 c κs = search needs
+
+returns-2 : tie.Need-returns-2
+unfolding locatedOf
+returns-2 c = rw (← c .before .before .before .before .before .before .fitness .ensures, c .before .before .before .before .enum-told .given .1, ← c .before .before .before .is-finite .ensures, not-false (c .before .before .before .is-finite .result) (c .before .before .if1 .left), ← c .before .is-finite2 .ensures, not-true (c .before .is-finite2 .result) (c .if2 .taken))
+
+eval-point-requires : tie.Need-eval-point-requires
+eval-point-requires c κs = search needs
+
+returns-3 : tie.Need-returns-3
+unfolding locatedOf
+returns-3 c = rw (← c .before .before .before .fitness .ensures, c .before .fitness2 .given .1)
+
+returns-4 : tie.Need-returns-4
+unfolding locatedOf
+returns-4 c = rw (← c .before .before .before .before .before .before .before .fitness .ensures, c .before .before .before .before .before .enum-told .given .1, ← c .before .before .before .before .is-finite .ensures, not-false (c .before .before .before .before .is-finite .result) (c .before .before .before .if1 .left), ← c .before .before .is-finite2 .ensures, not-false (c .before .before .is-finite2 .result) (c .before .if2 .left), ← c .eval-point .ensures)
+
+pub point-spec : {M : Type 1} → statement M
+point-spec = tie.close (tie.spec fitness-requires enum-known-fitness enum-told is-finite-requires returns is-finite-requires-2 returns-2 eval-point-requires returns-3 returns-4)

@@ -1,0 +1,119 @@
+-- Fitness of a patch (refusals 1 to 4), and the windows that apply. Definitions only.
+use mathlib.Core.Bool.{Bool, true, false, _&&_, cond}
+use lib.Ieee.{Float}
+use Rattle.loops.specs.Loop.{pick}
+use Rattle.number.specs.Operators.{bits, _<?_, _≤?_}
+use Rattle.number.specs.Helpers.{absOf, clampOf, magnitudeAtMost}
+use Rattle.refusal.specs.declared.Refusal.the-variants.{Number, Size, TurnMark}
+use Rattle.refusal.specs.declared.Refusal.the-variants as Refusal
+use Rattle.geometry.specs.declared.point.Point3D.{Point3D}
+use Rattle.geometry.specs.declared.vector.Vector3D.{Vector3D}
+use Rattle.geometry.specs.declared.frame.Frame3D.{Frame3D}
+use Rattle.analytic.specs.declared.surface.Surface.{Surface}
+use Rattle.analytic.specs.declared.surface.Surface.the-variants.{Plane, Cylinder, Cone, Sphere, Torus}
+use Rattle.patch.specs.declared.patch.Window.{Window}
+use Rattle.patch.specs.declared.patch.Patch.{Patch}
+use Rattle.patch.specs.declared.patch.Parameters.{Parameters}
+use Rattle.patch.specs.declared.patch.Fitness.{Fitness}
+use Rattle.patch.specs.declared.patch.Fitness.the-variants.{Fit, Unfit}
+
+-- ---- 1: "a number of the frame or a size is not finite, or above 2^20 in magnitude"
+
+unfoldable pub numberFit : Float → Bool
+numberFit x = magnitudeAtMost x (bits 0x4130_0000_0000_0000)
+
+unfoldable pub pointFit : Point3D → Bool
+pointFit p = numberFit (p .x) && (numberFit (p .y) && numberFit (p .z))
+
+unfoldable pub vectorFit : Vector3D → Bool
+vectorFit d = numberFit (d .x) && (numberFit (d .y) && numberFit (d .z))
+
+unfoldable pub frameFit : Frame3D → Bool
+frameFit f = pointFit (f .origin) && (vectorFit (f .x) && (vectorFit (f .y) && vectorFit (f .z)))
+
+-- a frame with one size, and with two
+unfoldable pub oneFits : Frame3D → Float → Bool
+oneFits f a = frameFit f && numberFit a
+
+unfoldable pub bothFit : Frame3D → Float → Float → Bool
+bothFit f a b = frameFit f && (numberFit a && numberFit b)
+
+unfoldable pub numbersFit : Surface → Bool
+numbersFit (Plane f) = frameFit f
+numbersFit (Cylinder f r) = oneFits f r
+numbersFit (Cone f r a) = bothFit f r a
+numbersFit (Sphere f r) = oneFits f r
+numbersFit (Torus f maj min) = bothFit f maj min
+
+-- ---- 2: "a wrong size"
+
+-- "both torus radii: above 0"
+unfoldable pub bothPositive : Float → Float → Bool
+bothPositive a b = bits 0 <? a && bits 0 <? b
+
+-- "Cone reference radius: 0 or more; its semi-angle: magnitude below 1.5"
+unfoldable pub coneFits : Float → Float → Bool
+coneFits r a = bits 0 ≤? r && absOf a <? bits 0x3FF8_0000_0000_0000
+
+-- "Cylinder and sphere radius: above 0"
+unfoldable pub sizesFit : Surface → Bool
+sizesFit (Plane f) = true
+sizesFit (Cylinder f r) = bits 0 <? r
+sizesFit (Cone f r a) = coneFits r a
+sizesFit (Sphere f r) = bits 0 <? r
+sizesFit (Torus f maj min) = bothPositive maj min
+
+-- ---- 3: "a window number is NaN, or a low end lies above its high end. Infinite and equal ends are allowed."
+unfoldable pub windowFit : Window → Bool
+windowFit w = w .low ≤? w .high
+
+-- ---- 4: "a turn mark on a direction that is no angle"
+
+-- "Angles are u of all but the plane, and v of torus."
+unfoldable pub uIsAngle : Surface → Bool
+uIsAngle (Plane f) = false
+uIsAngle (Cylinder f r) = true
+uIsAngle (Cone f r a) = true
+uIsAngle (Sphere f r) = true
+uIsAngle (Torus f maj min) = true
+
+unfoldable pub vIsAngle : Surface → Bool
+vIsAngle (Plane f) = false
+vIsAngle (Cylinder f r) = false
+vIsAngle (Cone f r a) = false
+vIsAngle (Sphere f r) = false
+vIsAngle (Torus f maj min) = true
+
+unfoldable pub markFit : Bool → Bool → Bool
+markFit turn angle = pick turn angle true
+
+-- ---- "1 to 4", in that order
+unfoldable pub fitnessOf : Patch → Fitness
+fitnessOf p =
+    pick (numbersFit (p .surface))
+    (pick (sizesFit (p .surface))
+    (pick (windowFit (p .u))
+    (pick (windowFit (p .v))
+    (pick (markFit (p .u .turn) (uIsAngle (p .surface)))
+    (pick (markFit (p .v .turn) (vIsAngle (p .surface))) Fit (Unfit TurnMark))
+    (Unfit TurnMark))
+    (Unfit Refusal.Window))
+    (Unfit Refusal.Window))
+    (Unfit Size))
+    (Unfit Number)
+
+-- ---- the windows that apply: "its window is tested by 3, then not applied"
+
+-- "inside its window where that has no turn mark"; "NaN is outside"
+unfoldable pub windowHolds : Window → Float → Bool
+windowHolds w x = pick (w .turn) true (w .low ≤? x && x ≤? w .high)
+
+unfoldable pub insideOf : Patch → Patch → Parameters → Bool
+insideOf a b x = windowHolds (a .u) (x .u1) && (windowHolds (a .v) (x .v1) && (windowHolds (b .u) (x .u2) && windowHolds (b .v) (x .v2)))
+
+-- "clamped to windows without turn mark"
+unfoldable pub boundedOf : Window → Float → Float
+boundedOf w x = pick (w .turn) x (clampOf x (w .low) (w .high))
+
+unfoldable pub withinBounds : Patch → Patch → Parameters → Parameters
+withinBounds a b x = record { u1 = boundedOf (a .u) (x .u1); v1 = boundedOf (a .v) (x .v1); u2 = boundedOf (b .u) (x .u2); v2 = boundedOf (b .v) (x .v2) }

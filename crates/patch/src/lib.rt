@@ -1,0 +1,12 @@
+//! A patch: a surface with the windows and turn marks of its two parameters. Its fitness (refusals 1 to 4), the windows that apply to four
+//! parameters, and the public point.
+pub mod patch;
+pub mod point;
+
+pub use patch::Fitness;
+pub use patch::Parameters;
+pub use patch::Patch;
+pub use patch::Window;
+pub use patch::inside;
+pub use patch::within_bounds;
+pub use point::Located;
