@@ -1,12 +1,14 @@
-//! Links the archive of the proved code that `rt staticlib probe` writes.
+//! Links the archives of the proved code that `rt staticlib capi` and `rt staticlib probe` write.
 use std::path::Path;
 
 fn main() {
     let root = Path::new(env!("CARGO_MANIFEST_DIR")).join("../target/staticlib");
     println!("cargo:rustc-link-search=native={}", root.display());
-    println!("cargo:rustc-link-lib=static=probe");
-    println!(
-        "cargo:rerun-if-changed={}",
-        root.join("libprobe.a").display()
-    );
+    for name in ["capi", "probe"] {
+        println!("cargo:rustc-link-lib=static={name}");
+        println!(
+            "cargo:rerun-if-changed={}",
+            root.join(format!("lib{name}.a")).display()
+        );
+    }
 }

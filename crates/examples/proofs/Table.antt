@@ -2,15 +2,17 @@
 use mathlib.Core.Path.{refl}
 use lib.Ieee.{toBits, ofBits}
 use Rattle.sqrt.specs.Sqrt.{sqrtOf}
-use Rattle.solve.proofs.Computing.{computing}
+use Rattle.solve.proofs.Computing as solve
+use Rattle.boxes.proofs.Computing as boxes
 use Rattle.examples.specs.Table.{Table}
 
 pub table : Table
-unfolding computing sqrtOf toBits ofBits
+unfolding solve.computing boxes.computing sqrtOf toBits ofBits
 table =
     record {
       row3 = refl;
       row4 = refl;
       row5 = (refl, λ right. refl);
       row6 = (refl, λ right. refl);
+      row8 = (λ p t. refl, λ p t. refl);
     }

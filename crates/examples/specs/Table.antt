@@ -1,11 +1,15 @@
 -- The rows of the paper's charted examples marked (P), each a field whose comment is the paper's sentence. Definitions only.
 use mathlib.Core.Path.{_≡_}
-use mathlib.Core.List.{List, [], _∷_}
+use mathlib.Core.List.{List, [], _∷_, _++_}
 use Prim.Native.Nat.{ℕ, _-_}
 use mathlib.Core.Bool.{false}
 use lib.IntN.{negsuc}
 use lib.Ieee.{Float, fin, binary64, toBits}
 use Rattle.number.specs.Operators.{bits}
+use Rattle.geometry.specs.declared.tolerance.Tolerance.{Tolerance}
+use Rattle.boxes.specs.declared.boxtree.Aabb.{Aabb}
+use Rattle.boxes.specs.declared.crossing.Crossed.the-variants as crossed
+use Rattle.boxes.specs.Crossing.{crossingOf}
 use Rattle.sqrt.specs.Sqrt.{sqrtOf}
 use Rattle.solve.specs.Solve.{solve2Of, solve3Of}
 use Rattle.solve.specs.declared.Solved2.the-variants as solved2
@@ -39,6 +43,24 @@ over2 e = fin false 1 (negsuc (e - 1))
 abbrev pub diagonal : Float → Float → Float → List (List Float)
 diagonal a b c = (a ∷ zero ∷ zero ∷ []) ∷ (zero ∷ b ∷ zero ∷ []) ∷ (zero ∷ zero ∷ c ∷ []) ∷ []
 
+-- a point's seven numbers at (x, 0, 0), whatever its parameters
+abbrev pub onAxis : Float → (ℕ → Float) → List Float
+onAxis x p = x ∷ zero ∷ zero ∷ p 0 ∷ p 1 ∷ p 2 ∷ p 3 ∷ []
+
+-- "Points (0,0,0), (0.1,0,0), (0.2,0,0), (0.3,0,0)"
+abbrev pub fourPoints : (ℕ → ℕ → Float) → List Float
+fourPoints p =
+    onAxis zero (p 0) ++ onAxis (bits 0x3fb9_9999_9999_999a) (p 1) ++ onAxis (bits 0x3fc9_9999_9999_999a) (p 2)
+    ++ onAxis (bits 0x3fd3_3333_3333_3333) (p 3)
+
+-- "confusion 2^-20, angular 1e-12", whatever the parametric tolerance
+abbrev pub confusion20 : Float → Tolerance
+confusion20 t = record { confusion = bits 0x3eb0_0000_0000_0000; angular = bits 0x3d71_9799_812d_ea11; parametric = t }
+
+-- "the box that is the point"
+abbrev pub boxAt : Float → Float → Float → Aabb
+boxAt x y z = record { low = record { x = x; y = y; z = z }; high = record { x = x; y = y; z = z } }
+
 pub record Table : Type 0 where
   -- "Square root of 2: bits hexadecimal 3ff6a09e667f3bcd."
   pub row3 : toBits binary64 (sqrtOf two) ≡ 0x3ff6a09e667f3bcd
@@ -52,3 +74,10 @@ pub record Table : Type 0 where
   pub row6 :
       (solve3Of (diagonal one one 4e-12) (one ∷ two ∷ 4e-12 ∷ []) 1e-12 ≡ solved3.Solution (record { x0 = one; x1 = two; x2 = one }))
       × ((right : List Float) → solve3Of (diagonal one one 1e-12) right 1e-12 ≡ solved3.Singular)
+  -- "Points (0,0,0), (0.1,0,0), (0.2,0,0), (0.3,0,0), confusion 2^-20, angular 1e-12: the box that is the point (0.15, 0.005, 0) is
+  -- crossed, (0.15, 0.01, 0) is not."
+  pub row8 :
+      ((p : ℕ → ℕ → Float) (t : Float)
+      → crossingOf (confusion20 t) (fourPoints p) 4 (boxAt (bits 0x3fc3_3333_3333_3333) (bits 0x3f74_7ae1_47ae_147b) zero) ≡ crossed.Yes)
+      × ((p : ℕ → ℕ → Float) (t : Float)
+      → crossingOf (confusion20 t) (fourPoints p) 4 (boxAt (bits 0x3fc3_3333_3333_3333) (bits 0x3f84_7ae1_47ae_147b) zero) ≡ crossed.No)

@@ -1,0 +1,161 @@
+-- The crossing says yes exactly when nothing refuses and some segment counts, and no exactly when nothing refuses and none does. Assumes nothing.
+use mathlib.Core.Path.{_≡_, refl, ap, sym, _∙_}
+use mathlib.Core.Bool.{Bool, true, false, not}
+use mathlib.Core.Logic.{_↔_}
+use mathlib.Core.List.{List}
+use Prim.Native.Nat.{ℕ, _+_, _-_, _*_, _/_, _%_, _<_}
+use native.Mathlib.Omega.{arith}
+use lib.Dec.{ltb}
+use lib.Ieee.{Float}
+use borrow.Author.Tests.{ltb-true, ltb-false, le-ltb, le-leb, not-false}
+use Rattle.loops.specs.Loop.{pick}
+use Rattle.loops.proofs.Some.{some-found, some-at, some-none, some-fails}
+use Rattle.groups.specs.Groups.{width, fromGroup, holdsOf}
+use Rattle.groups.proofs.Groups.{from-number, holds-length}
+use Rattle.geometry.specs.Tolerance.{toleranceFit}
+use Rattle.geometry.specs.declared.tolerance.Tolerance.{Tolerance}
+use Rattle.refusal.specs.declared.Refusal.the-variants as refusal
+use Rattle.boxes.specs.declared.boxtree.Aabb.{Aabb}
+use Rattle.boxes.specs.Box.{boxesApart}
+use Rattle.boxes.specs.Trace.{pointAt, boundsOf}
+use Rattle.boxes.specs.Crosses.{segmentMeets, someSegment, runCrosses, runsOf, firstOf, runPoints, runAt, someRun, grownOf, crossesOf}
+use Rattle.boxes.specs.declared.crossing.Crossed.{Crossed}
+use Rattle.boxes.specs.declared.crossing.Crossed.the-variants.{Yes, No, Refused}
+use Rattle.boxes.specs.Crossing.{boxFit, unfitAt, someUnfit, refusalOf, crossedOf, crossingOf}
+use Rattle.boxes.specs.Counts.{runBounds, Counts, Fit}
+
+-- a test that keeps out: what passes it
+past : (t : Bool) {u : Bool} → pick t false u ≡ true → (t ≡ false) × (u ≡ true)
+past true e = let z : _≡_ {A = ℕ} 0 1 = cc in absurd (omega arith)
+past false e = (refl, e)
+
+-- point k of a part is point f + k of the trace, and so for segments
+point-part : (l : List Float) (f k : ℕ) → pointAt (fromGroup width f l) k ≡ pointAt l (f + k)
+unfolding pointAt
+point-part l f k = rw (from-number width l f k 0, from-number width l f k 1, from-number width l f k 2)
+
+segment-part : (l : List Float) (g : Aabb) (f k : ℕ) → segmentMeets (fromGroup width f l) g k ≡ segmentMeets l g (f + k)
+segment-part l g f k =
+    let e : f + (k + 1) ≡ f + k + 1 = omega arith in
+    rw (point-part l f k, point-part l f (k + 1), e)
+
+-- the segments of a run: those below 16 that the trace has
+run-below : (count first k : ℕ) → k < runPoints count first - 1 → (k < 16) × (first + k + 1 < count)
+run-below count first k = go (ltb 17 (count - first)) refl
+  where
+    go : (t : Bool) → ltb 17 (count - first) ≡ t → k < pick t 17 (count - first) - 1 → (k < 16) × (first + k + 1 < count)
+    go true e h = let l = ltb-true 17 (count - first) e in (omega arith, omega arith)
+    go false e h = let l = ltb-false 17 (count - first) e in (omega arith, omega arith)
+
+run-reaches : (count first k : ℕ) → k < 16 → first + k + 1 < count → k < runPoints count first - 1
+run-reaches count first k h l = go (ltb 17 (count - first))
+  where
+    go : (t : Bool) → k < pick t 17 (count - first) - 1
+    go true = omega arith
+    go false = omega arith
+
+module _ (l : List Float) (count : ℕ) (b : Aabb) (confusion : Float) where
+  -- yes, so some segment counts
+  pub counts-found : crossesOf l count b confusion ≡ true → (i : ℕ) × Counts l count (grownOf b confusion) i
+  unfolding crossesOf someRun runCrosses someSegment
+  counts-found y =
+      let g = grownOf b confusion in
+      let w = past (boxesApart (boundsOf l count) g) y in
+      let r = some-found (runAt l count g) 0 (runsOf count) (w .1) in
+      let q = past (boxesApart (runBounds l count (r .0)) g) (r .3) in
+      let k = some-found (segmentMeets (fromGroup width (firstOf (r .0)) l) g) 0 (runPoints count (firstOf (r .0)) - 1) (q .1) in
+      let s = run-below count (firstOf (r .0)) (k .0) (k .2) in
+      let n : (16 * r .0 + k .0) / 16 ≡ r .0 = omega (arith, s .0) in (
+        16 * r .0 + k .0,
+        record {
+          segment = s .1;
+          whole = w .0;
+          run = rw n (q .0);
+          meets = sym (segment-part l g (firstOf (r .0)) (k .0)) ∙ k .3;
+        },
+      )
+
+  -- a segment counts, so yes
+  pub counts-crosses : (i : ℕ) → Counts l count (grownOf b confusion) i → crossesOf l count b confusion ≡ true
+  unfolding crossesOf someRun runCrosses someSegment
+  counts-crosses i c =
+      let g = grownOf b confusion in
+      let e : 16 * (i / 16) + i % 16 ≡ i = omega arith in
+      let s : segmentMeets l g (16 * (i / 16) + i % 16) ≡ true = rw e (c .meets) in
+      let k = some-at (segmentMeets (fromGroup width (firstOf (i / 16)) l) g) 0 (runPoints count (firstOf (i / 16)) - 1) (i % 16) (omega arith)
+      (run-reaches count (firstOf (i / 16)) (i % 16) (omega arith) (omega (arith, c .segment)))
+      (segment-part l g (firstOf (i / 16)) (i % 16) ∙ s) in
+      let r = some-at (runAt l count g) 0 (runsOf count) (i / 16) (omega arith) (omega (arith, c .segment)) (rw (c .run) k) in
+      rw (c .whole) r
+
+  -- `crosses` is 01's sentence: yes exactly when some segment counts
+  pub crosses-counts : (crossesOf l count b confusion ≡ true) ↔ ((i : ℕ) × Counts l count (grownOf b confusion) i)
+  crosses-counts = (counts-found, λ c. counts-crosses (c .0) (c .1))
+
+-- refusal 0 is every test passed, over what the tests said
+stages : (t h a z u f : Bool) (x : Crossed)
+    → refusalOf (pick t (pick h (pick a (Refused refusal.Claim) (pick z (Refused refusal.Claim) (pick u (Refused refusal.Coordinate) (pick f x (Refused refusal.BoxNumber))))) (Refused refusal.Lent)) (Refused refusal.Tolerance)) ≡ 0
+    → (t ≡ true) × (h ≡ true) × (a ≡ false) × (z ≡ false) × (u ≡ false) × (f ≡ true)
+stages false h a z u f x e = absurd (omega arith)
+stages true false a z u f x e = absurd (omega arith)
+stages true true true z u f x e = absurd (omega arith)
+stages true true false true u f x e = absurd (omega arith)
+stages true true false false true f x e = absurd (omega arith)
+stages true true false false false false x e = absurd (omega arith)
+stages true true false false false true x e = (refl, refl, refl, refl, refl, refl)
+
+answered : (t : Bool) → refusalOf (pick t Yes No) ≡ 0
+answered true = refl
+answered false = refl
+
+is-crossed : (t : Bool) → crossedOf (pick t Yes No) ≡ t
+is-crossed true = refl
+is-crossed false = refl
+
+-- a crossed trace is not refused
+crossed-answer : (x : Crossed) → crossedOf x ≡ true → refusalOf x ≡ 0
+crossed-answer Yes e = refl
+crossed-answer No e = refl
+crossed-answer (Refused r) e = let z : _≡_ {A = ℕ} 0 1 = cc in absurd (omega arith)
+
+module _ (tol : Tolerance) (l : List Float) (count : ℕ) (b : Aabb) where
+  -- where nothing refuses, `crosses` answers
+  pub fit-answer : Fit tol l count b → crossingOf tol l count b ≡ pick (crossesOf l count b (tol .confusion)) Yes No
+  unfolding crossingOf someUnfit holdsOf
+  fit-answer f =
+      let n = some-none (unfitAt l) 0 count (λ i z h. ap not (f .coordinates i h)) in
+      rw (f .tolerance, le-leb _ _ (f .lent), le-ltb _ _ (f .least), le-ltb _ _ (f .most), n, f .corners)
+
+  pub fit-of : refusalOf (crossingOf tol l count b) ≡ 0 → Fit tol l count b
+  unfolding crossingOf someUnfit
+  fit-of e =
+      let s = stages (toleranceFit tol) (holdsOf width l count) (ltb count 4) (ltb 4001 count) (someUnfit l count) (boxFit b) _ e in
+      record {
+        tolerance = s .0;
+        lent = holds-length width l count (s .1);
+        least = ltb-false _ _ (s .2);
+        most = ltb-false _ _ (s .3);
+        coordinates = λ i h. not-false _ (some-fails (unfitAt l) 0 count (s .4) i (omega arith) h);
+        corners = s .5;
+      }
+
+  -- no number exactly when none of 5, 8, 12, 18, 17 refuses
+  pub answers-when : (refusalOf (crossingOf tol l count b) ≡ 0) ↔ Fit tol l count b
+  answers-when = (fit-of, λ f. ap refusalOf (fit-answer f) ∙ answered (crossesOf l count b (tol .confusion)))
+
+  -- The sentence of the scope, for every input: the answer is yes exactly when nothing refuses (`Fit`) and there is a segment i of the
+  -- trace, from point i to point i + 1, such that the box of the whole trace and the box of run i / 16 are not apart from the box grown
+  -- by 8000 times confusion, and `segment_meets_box` holds of it (`Counts`)
+  pub crossed-when : (crossedOf (crossingOf tol l count b) ≡ true) ↔ (Fit tol l count b × ((i : ℕ) × Counts l count (grownOf b (tol .confusion)) i))
+  crossed-when = (there, back)
+    where
+      there : crossedOf (crossingOf tol l count b) ≡ true → Fit tol l count b × ((i : ℕ) × Counts l count (grownOf b (tol .confusion)) i)
+      there e =
+          let f = fit-of (crossed-answer (crossingOf tol l count b) e) in
+          let y = sym (is-crossed (crossesOf l count b (tol .confusion))) ∙ sym (ap crossedOf (fit-answer f)) ∙ e in
+          (f, counts-found l count b (tol .confusion) y)
+
+      back : Fit tol l count b × ((i : ℕ) × Counts l count (grownOf b (tol .confusion)) i) → crossedOf (crossingOf tol l count b) ≡ true
+      back p =
+          ap crossedOf (fit-answer (p .0)) ∙ is-crossed (crossesOf l count b (tol .confusion))
+          ∙ counts-crosses l count b (tol .confusion) (p .1 .0) (p .1 .1)

@@ -1,0 +1,4 @@
+pub mod Turns
+pub mod Counted
+pub mod Computing
+pub mod Wreck

@@ -1,0 +1,51 @@
+-- What a turn of each loop computes is what the definition tests there. Assumes nothing.
+use mathlib.Core.Path.{_≡_, refl, ap, sym, _∙_}
+use mathlib.Core.Bool.{Bool, true, false, not}
+use mathlib.Core.List.{List}
+use Prim.Native.Nat.{ℕ, _+_, _-_, _*_, _≤_, _<_}
+use native.Mathlib.Omega.{arith}
+use lib.ListN.{length, take, drop, length-drop}
+use lib.Dec.{ltb}
+use lib.Ieee.{Float}
+use borrow.Author.Tests.{ltb-true}
+use Rattle.loops.specs.Loop.{pick}
+use Rattle.groups.specs.Groups.{width}
+use Rattle.groups.proofs.Groups.{part-from}
+use Rattle.geometry.specs.declared.point.Point3D.{Point3D}
+use Rattle.boxes.specs.declared.boxtree.Aabb.{Aabb}
+use Rattle.boxes.specs.Trace.{pointAt, coverOf, coverAt}
+use Rattle.boxes.specs.Segment.{segmentMeetsBox}
+use Rattle.boxes.specs.Crosses.{segmentMeets, firstOf, runCrosses, runPoints, runAt}
+use Rattle.boxes.specs.Crossing.{pointFit, unfitAt}
+
+pub unfit-turn : (l : List Float) (i : ℕ) {p : Point3D} {t : Bool} → p ≡ pointAt l i → t ≡ pointFit p → unfitAt l i ≡ not t
+unfit-turn l i ep et = rw (← ep, ← et)
+
+pub segment-turn : (l : List Float) (b : Aabb) (i : ℕ) {p q : Point3D} {t : Bool} → p ≡ pointAt l i → q ≡ pointAt l (i + 1)
+    → t ≡ segmentMeetsBox p q b → segmentMeets l b i ≡ t
+segment-turn l b i ep eq et = rw (← ep, ← eq, ← et)
+
+pub cover-turn : (l : List Float) (i : ℕ) (b : Aabb) {c : Aabb} {p : Point3D} → p ≡ pointAt l i → c ≡ coverOf b p → c ≡ coverAt l i b
+cover-turn l i b ep ec = rw (← ep) ec
+
+pub run-turn : (l : List Float) (count : ℕ) (b : Aabb) (r : ℕ) {n : ℕ} {t : Bool} → n ≡ runPoints count (firstOf r)
+    → t ≡ runCrosses (take (length l - width * firstOf r) (drop (width * firstOf r) l)) n b → runAt l count b r ≡ t
+run-turn l count b r {n} en et = rw (← en) (sym (et ∙ ap (λ (m : List Float). runCrosses m n b) (part-from (width * firstOf r) l)))
+
+-- a run has a point, and no more than are left
+run-least : (n : ℕ) → 0 < n → (0 < pick (ltb 17 n) 17 n) × (pick (ltb 17 n) 17 n ≤ n)
+run-least n h = go (ltb 17 n) refl
+  where
+    go : (t : Bool) → ltb 17 n ≡ t → (0 < pick t 17 n) × (pick t 17 n ≤ n)
+    go true e = let g = ltb-true 17 n e in (omega arith, omega arith)
+    go false e = (h, omega arith)
+
+-- so the part that is handed on holds them
+pub run-holds : (l : List Float) (count r : ℕ) {n : ℕ} → firstOf r < count → width * count ≤ length l → n ≡ runPoints count (firstOf r)
+    → (0 < n) × (width * n ≤ length (take (length l - width * firstOf r) (drop (width * firstOf r) l)))
+run-holds l count r {n} h f en =
+    let k = run-least (count - firstOf r) (omega arith) in
+    let d = length-drop (width * firstOf r) l in
+    let p : 0 < n = rw en (k .0) in
+    let q : n ≤ count - firstOf r = rw en (k .1) in
+    (p, rw (part-from (width * firstOf r) l) (omega arith))

@@ -1,0 +1,36 @@
+-- `boxes::pieces::cover` meets its contract: each way out has its tests, and what it calls its own. Assumes nothing.
+use borrow.Author.Needs.{needs}
+use Rattle.boxes.specs.Trace.{coverOf}
+use Rattle.boxes.proofs.pieces.cover.Statement.{statement}
+use Rattle.boxes.proofs.pieces.cover.Tie as tie
+
+min-requires : tie.Need-min-requires
+min-requires c κs = search needs
+
+min-requires-2 : tie.Need-min-requires-2
+min-requires-2 c κs = search needs
+
+min-requires-3 : tie.Need-min-requires-3
+min-requires-3 c κs = search needs
+
+new-requires : tie.Need-new-requires
+new-requires c κs = search needs
+
+max-requires : tie.Need-max-requires
+max-requires c κs = search needs
+
+max-requires-2 : tie.Need-max-requires-2
+max-requires-2 c κs = search needs
+
+max-requires-3 : tie.Need-max-requires-3
+max-requires-3 c κs = search needs
+
+new-requires-2 : tie.Need-new-requires-2
+new-requires-2 c κs = search needs
+
+returns : tie.Need-returns
+unfolding coverOf
+returns c = rw (c .new2 .ensures, c .before .max3 .ensures, c .before .before .max2 .ensures, c .before .before .before .max .ensures, c .before .before .before .before .new .ensures, c .before .before .before .before .before .min3 .ensures, c .before .before .before .before .before .before .min2 .ensures, c .before .before .before .before .before .before .before .min .ensures)
+
+pub cover-spec : {M : Type 1} → statement M
+cover-spec = tie.close (tie.spec min-requires min-requires-2 min-requires-3 new-requires max-requires max-requires-2 max-requires-3 new-requires-2 returns)

@@ -1,0 +1,45 @@
+-- `segment_meets_box` of marching.rs. Definitions only.
+use mathlib.Core.Bool.{Bool, true, false}
+use lib.Ieee.{Float}
+use Rattle.loops.specs.Loop.{pick}
+use Rattle.number.specs.Operators.{bits, _⊖_, _⊘_, _<?_, _==?_}
+use Rattle.number.specs.Helpers.{minOf, maxOf}
+use Rattle.geometry.specs.declared.point.Point3D.{Point3D}
+use Rattle.boxes.specs.declared.boxtree.Aabb.{Aabb}
+use Rattle.boxes.specs.declared.marching.Span.{Span}
+use Rattle.boxes.specs.declared.marching.Clipped.{Clipped}
+use Rattle.boxes.specs.declared.marching.Clipped.the-variants.{Meets, Misses}
+
+-- lo = 0.0 and hi = 1.0: the whole segment
+abbrev pub whole : Span
+whole = record { lo = bits 0; hi = bits 0x3ff0_0000_0000_0000 }
+
+-- `if lo > hi { return false; }`
+abbrev pub spanFrom : Float → Float → Clipped
+spanFrom lo hi = pick (hi <? lo) Misses (Meets (record { lo = lo; hi = hi }))
+
+-- a direction that isn't 0: t0 and t1 where the segment passes the two sides, lo.max(t0.min(t1)) and hi.min(t0.max(t1))
+abbrev pub narrowed : Float → Float → Span → Clipped
+narrowed t0 t1 s = spanFrom (maxOf (s .lo) (minOf t0 t1)) (minOf (s .hi) (maxOf t0 t1))
+
+-- one turn of the Rust's loop over the axes
+unfoldable pub clipOf : Float → Float → Float → Float → Span → Clipped
+clipOf from d low high s =
+    pick (d ==? bits 0)
+    (pick (from <? low) Misses (pick (high <? from) Misses (Meets s)))
+    (narrowed ((low ⊖ from) ⊘ d) ((high ⊖ from) ⊘ d) s)
+
+-- the next axis, and what is answered after the last
+abbrev pub andThen : (Span → Clipped) → Clipped → Clipped
+andThen next (Meets s) = next s
+andThen next Misses = Misses
+
+abbrev pub met : Clipped → Bool
+met (Meets s) = true
+met Misses = false
+
+unfoldable pub segmentMeetsBox : Point3D → Point3D → Aabb → Bool
+segmentMeetsBox p q b =
+    met (andThen (clipOf (p .z) (q .z ⊖ p .z) (b .low .z) (b .high .z))
+    (andThen (clipOf (p .y) (q .y ⊖ p .y) (b .low .y) (b .high .y))
+    (clipOf (p .x) (q .x ⊖ p .x) (b .low .x) (b .high .x) whole)))

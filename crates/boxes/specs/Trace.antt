@@ -1,0 +1,31 @@
+-- The points of a lent trace and the box around some of them. Definitions only.
+use mathlib.Core.List.{List}
+use Prim.Native.Nat.{ℕ}
+use lib.Ieee.{Float}
+use Rattle.loops.specs.Loop.{ranged}
+use Rattle.number.specs.Helpers.{minOf, maxOf}
+use Rattle.groups.specs.Groups.{width, numberAt}
+use Rattle.geometry.specs.Point.{pointOf}
+use Rattle.geometry.specs.declared.point.Point3D.{Point3D}
+use Rattle.boxes.specs.declared.boxtree.Aabb.{Aabb}
+
+-- the coordinates of point i: "x, y, z" come first
+unfoldable pub pointAt : List Float → ℕ → Point3D
+pointAt l i = pointOf (numberAt width l i 0) (numberAt width l i 1) (numberAt width l i 2)
+
+-- the box that is a point, and a box widened to hold one
+unfoldable pub pointBox : Point3D → Aabb
+pointBox p = record { low = p; high = p }
+
+unfoldable pub coverOf : Aabb → Point3D → Aabb
+coverOf b p = record {
+  low = pointOf (minOf (b .low .x) (p .x)) (minOf (b .low .y) (p .y)) (minOf (b .low .z) (p .z));
+  high = pointOf (maxOf (b .high .x) (p .x)) (maxOf (b .high .y) (p .y)) (maxOf (b .high .z) (p .z));
+}
+
+-- bounding_box: from the first point on, in their order
+abbrev pub coverAt : List Float → ℕ → Aabb → Aabb
+coverAt l i b = coverOf b (pointAt l i)
+
+unfoldable pub boundsOf : List Float → ℕ → Aabb
+boundsOf l count = ranged (coverAt l) 1 count (pointBox (pointAt l 0))

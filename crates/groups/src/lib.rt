@@ -1,0 +1,14 @@
+//! Groups of numbers in a flat lent list, one group a point. The width of a group stands here, once for the code and
+//! once for the definitions (`width` of `specs/Groups.antt`); the laws in `proofs/Groups.antt` hold for every width.
+ghost use mathlib.Core.Path.{_≡_};
+ghost use Rattle.groups.specs.Groups.{width, holdsOf};
+
+// How many numbers a point has: x, y, z, then u, v on the first surface and u, v on the second.
+pub const WIDTH: usize = 7;
+
+// Whether the list has a whole group for each of `count` points. No product is formed, so that no count is too large.
+pub fn holds(numbers: &[f64], count: usize) -> bool
+    ensures { λ r. ⌜ r ≡ holdsOf width (now (numbers .entry)) count ⌝ }
+{
+    count <= numbers.len() / WIDTH
+}

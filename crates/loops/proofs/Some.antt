@@ -1,0 +1,60 @@
+-- The laws of a search: its turns, and that it finds exactly what there is. Assumes nothing.
+use mathlib.Core.Path.{_≡_, refl, sym, _∙_}
+use mathlib.Core.Bool.{Bool, true, false}
+use Prim.Native.Nat.{ℕ, zero, suc, _+_, _-_, _≤_, _<_}
+use native.Mathlib.Omega.{arith}
+use Rattle.loops.specs.Some.{stopAt, none, some}
+use Rattle.loops.proofs.Loop.{searched-again, searched-leave, searched-done}
+
+module _ (test : ℕ → Bool) (a b : ℕ) where
+  -- a turn whose test fails, a turn whose test holds, and the end
+  pub some-again : {u : Bool} → a < b → test a ≡ false → some test a b ≡ u → some test (a + 1) b ≡ u
+  some-again h e i = searched-again (stopAt test) none a b h (rw e) i
+
+  pub some-leave : {u : Bool} → a < b → test a ≡ true → some test a b ≡ u → true ≡ u
+  some-leave h e i = searched-leave (stopAt test) none a b {s = tt} h (rw e) i
+
+  pub some-done : {u : Bool} → b ≤ a → some test a b ≡ u → false ≡ u
+  some-done h i = searched-done (stopAt test) none a b {s = tt} h i
+
+cases : {P : Type 0} (t : Bool) → (t ≡ true → P) → (t ≡ false → P) → P
+cases true f g = f refl
+cases false f g = g refl
+
+-- where the search says yes, the test holds at an index of the range
+pub some-found : (test : ℕ → Bool) (a b : ℕ) → some test a b ≡ true → (i : ℕ) × (a ≤ i) × (i < b) × (test i ≡ true)
+some-found test a b = go (b - a) a refl
+  where
+    go : (k a : ℕ) → b - a ≡ k → some test a b ≡ true → (i : ℕ) × (a ≤ i) × (i < b) × (test i ≡ true)
+    go zero a e y =
+        let no : _≡_ {A = Bool} false true = some-done test a b (omega arith) y in
+        let z : _≡_ {A = ℕ} 0 1 = cc in
+        absurd (omega arith)
+    go (suc k) a e y =
+        cases (test a) (λ h. (a, omega arith, omega arith, h))
+        (λ h.
+        let r = go k (a + 1) (omega arith) (some-again test a b (omega arith) h y) in
+        (r .0, omega (arith, r .1), r .2, r .3))
+
+-- and where the test holds at an index of the range, the search says yes
+pub some-at : (test : ℕ → Bool) (a b i : ℕ) → a ≤ i → i < b → test i ≡ true → some test a b ≡ true
+some-at test a b i = go (b - a) a refl
+  where
+    go : (k a : ℕ) → b - a ≡ k → a ≤ i → i < b → test i ≡ true → some test a b ≡ true
+    go zero a e h l y = absurd (omega arith)
+    go (suc k) a e h l y =
+        cases (test a) (λ t. sym (some-leave test a b (omega arith) t refl))
+        (λ t.
+        let apart : (a ≡ i → ⊥) = λ q. (let z : _≡_ {A = ℕ} 0 1 = cc in omega arith) in
+        sym (some-again test a b (omega arith) t refl) ∙ go k (a + 1) (omega arith) (omega arith) l y)
+
+unlike : {t : Bool} → t ≡ true → t ≡ false → ⊥
+unlike p q = let z : _≡_ {A = ℕ} 0 1 = cc in omega arith
+
+-- it says no exactly when the test fails all along
+pub some-fails : (test : ℕ → Bool) (a b : ℕ) → some test a b ≡ false → (i : ℕ) → a ≤ i → i < b → test i ≡ false
+some-fails test a b n i l h = cases (test i) (λ e. absurd (unlike (some-at test a b i l h e) n)) (λ e. e)
+
+pub some-none : (test : ℕ → Bool) (a b : ℕ) → ((i : ℕ) → a ≤ i → i < b → test i ≡ false) → some test a b ≡ false
+some-none test a b f =
+    cases (some test a b) (λ e. let r = some-found test a b e in absurd (unlike (r .3) (f (r .0) (r .1) (r .2)))) (λ e. e)

@@ -1,0 +1,15 @@
+-- A search as a function: whether a test holds at some index of a range. Definitions only.
+use mathlib.Core.Bool.{Bool, true, false}
+use Prim.Native.Nat.{ℕ}
+use Rattle.loops.specs.Loop.{pick, Flow, on, out, searched}
+
+-- one turn: `if test(i) { return true; }`
+abbrev pub stopAt : (ℕ → Bool) → ℕ → Unit {0} → Flow (Unit {0}) Bool
+stopAt test i s = pick (test i) (out true) (on s)
+
+abbrev pub none : Unit {0} → Bool
+none s = false
+
+-- `for i in a..b { if test(i) { return true; } } false`
+abbrev pub some : (ℕ → Bool) → ℕ → ℕ → Bool
+some test a b = searched (stopAt test) none a b (on tt)
