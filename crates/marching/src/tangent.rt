@@ -1,0 +1,80 @@
+// `tangent` and `predict` of the Rust.
+use geometry::Tolerance;
+use geometry::Vector3D;
+use patch::Parameters;
+use patch::Patch;
+use solve::Solution2;
+use solve::Solved2;
+ghost use mathlib.Core.Path.{_≡_};
+ghost use Rattle.marching.specs.Tangent.{normalOf, unitCross, tangentOf, shiftOf, predictOf};
+
+pub enum Direction {
+    Along(Vector3D),
+    Missing,
+}
+
+// The vector product of the first derivatives.
+fn normal(patch: Patch, u: f64, v: f64) -> Vector3D
+    ensures { λ r. ⌜ r ≡ normalOf patch u v ⌝ }
+{
+    let surface = patch.surface;
+    let d = surface.eval_d1(u, v);
+    let du = d.u;
+    let dv = d.v;
+    du.cross(dv)
+}
+
+// The unit vector along na x nb, unless that is too short beside |na||nb|.
+fn unit_cross(na: Vector3D, nb: Vector3D, angular: f64) -> Direction
+    ensures { λ r. ⌜ r ≡ unitCross na nb angular ⌝ }
+{
+    let t = na.cross(nb);
+    let length = t.magnitude();
+    let scale = na.magnitude() * nb.magnitude();
+    if length <= angular * number::max(scale, number::MIN_POSITIVE) {
+        Direction::Missing
+    } else {
+        Direction::Along(t.scale(1.0 / length))
+    }
+}
+
+// The unit tangent of the curve at x.
+pub fn tangent(a: Patch, b: Patch, x: Parameters, tol: Tolerance) -> Direction
+    ensures { λ r. ⌜ r ≡ tangentOf a b x tol ⌝ }
+{
+    let na = normal(a, x.u1, x.v1);
+    let nb = normal(b, x.u2, x.v2);
+    unit_cross(na, nb, tol.angular)
+}
+
+// How far u and v move, to first order, by the displacement d; not at all where the tangent plane degenerates.
+fn shift(patch: Patch, u: f64, v: f64, d: Vector3D) -> Solution2
+    ensures { λ r. ⌜ r ≡ shiftOf patch u v d ⌝ }
+{
+    let surface = patch.surface;
+    let s = surface.eval_d1(u, v);
+    let su = s.u;
+    let sv = s.v;
+    let uu = su.dot(su);
+    let uv = su.dot(sv);
+    let vv = sv.dot(sv);
+    let solved = solve::solve_2x2([[uu, uv], [uv, vv]], [su.dot(d), sv.dot(d)], 1e-12);
+    match solved {
+        Solved2::Solution(x) => x,
+        Solved2::Singular => Solution2 { x0: 0.0, x1: 0.0 },
+    }
+}
+
+// The parameters moved to first order by the displacement d on both surfaces.
+pub fn predict(a: Patch, b: Patch, x: Parameters, d: Vector3D) -> Parameters
+    ensures { λ r. ⌜ r ≡ predictOf a b x d ⌝ }
+{
+    let s = shift(a, x.u1, x.v1, d);
+    let t = shift(b, x.u2, x.v2, d);
+    Parameters {
+        u1: x.u1 + s.x0,
+        v1: x.v1 + s.x1,
+        u2: x.u2 + t.x0,
+        v2: x.v2 + t.x1,
+    }
+}
