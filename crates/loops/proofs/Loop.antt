@@ -57,3 +57,19 @@ searched-leave f end a b {s} {r} h e i =
 pub searched-done : {S R : Type 0} (f : ℕ → S → Flow S R) (end : S → R) (a b : ℕ) {s : S} {u : R} → b ≤ a
     → searched f end a b (on s) ≡ u → end s ≡ u
 searched-done f end a b {s} h i = sym (searched-end f end a b s h) ∙ i
+
+-- What every turn keeps holds at the end: P of each state, Q of each answer.
+abbrev pub Kept : {S R : Type 0} → (S → Type 0) → (R → Type 0) → Flow S R → Type 0
+Kept P Q (on s) = P s
+Kept P Q (out r) = Q r
+
+pub searched-keeps : {S R : Type 0} (f : ℕ → S → Flow S R) (end : S → R) (P : S → Type 0) (Q : R → Type 0)
+    → ((i : ℕ) (s : S) → P s → Kept P Q (f i s)) → ((s : S) → P s → Q (end s)) → (a b : ℕ) (s : S) → P s → Q (searched f end a b (on s))
+unfolding exits
+searched-keeps {S} {R} f end P Q step last a b s p = go (b - a) a (on s) p
+  where
+    go : (k i : ℕ) (w : Flow S R) → Kept P Q w → Q (exits f end k i w)
+    go zero i (on s) h = last s h
+    go zero i (out r) h = h
+    go (suc k) i (on s) h = go k (i + 1) (f i s) (step i s h)
+    go (suc k) i (out r) h = h

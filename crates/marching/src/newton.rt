@@ -23,13 +23,13 @@ pub enum Met {
 }
 
 // The first trial that falls short of the merit, if one does.
-enum Trial {
+pub enum Trial {
     Better(Residual),
     Nothing,
 }
 
 // What a round gives: the residual to go on with, or the answer.
-enum Round {
+pub enum Round {
     Next(Residual),
     End(Met),
 }

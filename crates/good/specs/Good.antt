@@ -1,0 +1,21 @@
+-- What the walk keeps of every point. Definitions only.
+use Prim.Native.Nat.{ℕ}
+use lib.Dec.{T}
+use lib.Ieee.{Float}
+use Rattle.number.specs.Operators.{_≤?_, _<?_}
+use Rattle.geometry.specs.Point.{distanceOf}
+use Rattle.patch.specs.declared.patch.Patch.{Patch}
+use Rattle.patch.specs.declared.patch.Parameters.{Parameters}
+use Rattle.patch.specs.declared.patch.Window.{Window}
+use Rattle.patch.specs.Patch.{insideOf}
+use Rattle.marching.specs.Parameters.{ofFour}
+use Rattle.marching.specs.Step.{pointA, pointB}
+
+-- every parameter inside its window where that has no turn mark, and the computed gap of A's and B's points at most confusion
+pub record Good (a b : Patch) (confusion : Float) (x : Parameters) : Type 0 where
+  pub inside : T (insideOf a b x)
+  pub gap : T (distanceOf (pointA a x) (pointB b x) ≤? confusion)
+
+-- the window of the k-th of the four parameters
+abbrev pub windowAt : Patch → Patch → ℕ → Window
+windowAt a b k = ofFour k (a .u) (a .v) (b .u) (b .v)
