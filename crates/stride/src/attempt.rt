@@ -15,13 +15,12 @@ use patch::Patch;
 ghost use mathlib.Core.Path.{_≡_};
 ghost use Rattle.stride.specs.Attempt.{keptOf, onEdge, turnOf, smoothOf, acceptedOf, onwardOf, innerOf, landedOf, attemptOf};
 
-// Where a half stands: the parameters and A's point of the last point kept, the direction in which it goes on, the next stride's
-// length, and the curvature of the last step (0 before the first).
+// Where a half stands: the parameters and A's point of the last point kept, the direction in which it goes on, and the curvature of the
+// last step (0 before the first).
 pub struct Walker {
     pub x: Parameters,
     pub p: Point3D,
     pub t: Vector3D,
-    pub h: f64,
     pub curvature: f64,
 }
 

@@ -1,0 +1,134 @@
+-- The stride loop: its invariant, what a turn makes of it, and why 37 turns leave no stride untried. Assumes nothing.
+use mathlib.Core.Path.{_≡_, refl, sym, ap, _∙_, subst}
+use mathlib.Core.Logic.{_⊎_, inl, inr}
+use mathlib.Core.Bool.{Bool, true, false}
+use Prim.Native.Nat.{ℕ, zero, suc, _+_, _-_, _*_, _^_, _≤_, _<_, zero-le}
+use native.Mathlib.Omega.{arith}
+use native.Mathlib.Nat.{le-trans, le-of-eq, lt-of-lt-of-le, lt-of-not-le, not-le-of-lt, eq-or-lt-of-le, mul-assoc, mul-one, mul-le-mul-right}
+use native.Mathlib.Numerals.{add-one}
+use lib.Dec.{T, lit≤, lit<}
+use lib.Pow.{pow-add, pow-pos, pow-mono}
+use lib.Ieee.{Float, nan, inf, fin, binary64, ofBits, le, fits}
+use lib.Ieee.Fits.{mul-fits}
+use lib.Ieee.Scale.{finite}
+use Rattle.loops.specs.Loop.{Flow, on, out}
+use Rattle.loops.proofs.Loop.{searched-again, searched-leave, searched-done}
+use Rattle.number.specs.Operators.{_⊗_, _≤?_}
+use Rattle.number.specs.Units.{unit, mag, neg?}
+use Rattle.number.proofs.Values.{Is, is-own, whole}
+use Rattle.number.proofs.Order.{le-through, le→units}
+use Rattle.number.proofs.Scaling.{half-exact}
+use Rattle.geometry.specs.declared.tolerance.Tolerance.{Tolerance}
+use Rattle.geometry.specs.Tolerance.{leastConfusion, toleranceFit}
+use Rattle.gap.proofs.Gap.{fit-tolerance, large}
+use Rattle.patch.specs.declared.patch.Patch.{Patch}
+use Rattle.stride.specs.declared.attempt.Walker.{Walker}
+use Rattle.stride.specs.declared.attempt.Tried.{Tried}
+use Rattle.stride.specs.declared.attempt.Tried.the-variants as tried
+use Rattle.stride.specs.declared.shorten.Stride.{Stride}
+use Rattle.stride.specs.declared.shorten.Stride.the-variants as stride
+use Rattle.stride.specs.Attempt.{attemptOf}
+use Rattle.stride.specs.Shorten.{longestStride, half, strideStep, noStride, strideFrom, halvingOf}
+
+-- ---- a number between a fit confusion and 0.1
+
+tenth-is : Is longestStride false (mag longestStride)
+unfolding ofBits
+tenth-is = (refl, refl)
+
+tenth-small : mag longestStride < 2 ^ 1071
+unfolding ofBits
+tenth-small = lit< tt
+
+between-finite : (h : Float) → T (leastConfusion ≤? h) → T (h ≤? longestStride) → T (finite h)
+between-finite nan a b = unfold le in absurd b
+between-finite (inf true) a b = unfold ofBits le in absurd a
+between-finite (inf false) a b = unfold ofBits le in absurd b
+between-finite (fin t m e) a b = tt
+
+-- after i halvings of a stride of at most 0.1: what is left of it, if it is still at least confusion
+pub record Halved (a b : Patch) (tol : Tolerance) (dir : Float) (w : Walker) (h₀ h : Float) : Type 0 where
+  pub i : ℕ
+  pub within : i ≤ 37
+  pub same : strideFrom a b tol dir w i h ≡ halvingOf a b tol dir w h₀
+  pub fits-h : T (fits binary64 h)
+  pub finite-h : T (tol .confusion ≤? h) → T (finite h)
+  pub small : T (tol .confusion ≤? h) → mag h * 2 ^ i ≤ mag longestStride
+
+of-true : {b : Bool} → b ≡ true → T b
+of-true e = subst T (sym e) tt
+
+module _ (a b : Patch) (tol : Tolerance) (dir : Float) (w : Walker) (fit : T (toleranceFit tol)) where
+  low : T (leastConfusion ≤? tol .confusion)
+  low = fit-tolerance tol fit .0
+
+  -- a stride that is at least confusion is 2 ^ 1034 units at least, and not negative
+  at-least : (h : Float) → T (fits binary64 h) → T (finite h) → T (tol .confusion ≤? h) → (neg? h ≡ false) × (2 ^ 1034 ≤ mag h)
+  at-least h f fin-h l = large h (neg? h) (whole h f fin-h) (le-through leastConfusion (tol .confusion) h low l)
+
+  pub start : (h : Float) → T (fits binary64 h) → T (h ≤? longestStride) → Halved a b tol dir w h h
+  unfolding halvingOf
+  start h f l = record {
+    i = 0;
+    within = zero-le;
+    same = refl;
+    fits-h = f;
+    finite-h = is-finite;
+    small = λ t.
+        let x = at-least h f (is-finite t) t in
+        le-trans (le-of-eq (mul-one (mag h))) (le→units h longestStride false false (mag h) (mag longestStride) (subst (λ (s : Bool). Is h s (mag h)) (x .0) (whole h f (is-finite t))) tenth-is l);
+  }
+    where
+      is-finite : T (tol .confusion ≤? h) → T (finite h)
+      is-finite t = between-finite h (le-through leastConfusion (tol .confusion) h low t) l
+
+  module _ (h₀ h : Float) (v : Halved a b tol dir w h₀ h) where
+    pub ended : (tol .confusion ≤? h) ≡ false → stride.Ended ≡ halvingOf a b tol dir w h₀
+    ended left = elim (eq-or-lt-of-le (v .within)) [
+      | inl e ↦ searched-done (strideStep a b tol dir w) noStride (v .i) 37 (le-of-eq (sym e)) (v .same)
+      | inr l ↦ searched-leave (strideStep a b tol dir w) noStride (v .i) 37 l (rw left) (v .same)
+    ]
+
+    module _ (taken : (tol .confusion ≤? h) ≡ true) where
+      large-h : 2 ^ 1034 ≤ mag h
+      large-h = at-least h (v .fits-h) (v .finite-h (of-true taken)) (of-true taken) .1
+
+      -- so fewer than 37 halvings led here
+      pub below : v .i < 37
+      below = lt-of-not-le (λ (g : 37 ≤ v .i). not-le-of-lt tenth-small
+          (le-trans (le-trans (lit≤ {m = 2 ^ 1071} {n = 2 ^ 1034 * 2 ^ 37} tt) (native.Mathlib.Nat.mul-le-mul {n₁ = 2 ^ 1034} {m₁ = 2 ^ 37} large-h (pow-mono g))) (v .small (of-true taken))))
+
+      halved : (k : ℕ) × (mag h ≡ k * 2) × Is (h ⊗ half) (neg? h) k
+      halved = half-exact h (v .fits-h) (v .finite-h (of-true taken)) (le-trans (lit≤ {m = 2 ^ 53} {n = 2 ^ 1034} tt) large-h)
+
+      mag-half : mag (h ⊗ half) ≡ halved .0
+      mag-half = is-own (h ⊗ half) (neg? h) (halved .0) (halved .2) .1
+
+      pub falls : mag (h ⊗ half) < mag h
+      falls = smaller (mag h) (halved .0) (mag (h ⊗ half)) (halved .1) mag-half (lt-of-lt-of-le (pow-pos 1034) large-h)
+        where
+          smaller : (m k g : ℕ) → m ≡ k * 2 → g ≡ k → 0 < m → g < m
+          smaller m k g e f p = omega arith
+
+      module _ {t : Tried} (et : t ≡ attemptOf a b tol dir w h) where
+        pub again : t ≡ tried.Nothing → Halved a b tol dir w h₀ (h ⊗ half)
+        again e = record {
+          i = v .i + 1;
+          within = let l = below in omega arith;
+          same = searched-again (strideStep a b tol dir w) noStride (v .i) 37 below (rw (taken, ← et, e)) (v .same);
+          fits-h = mul-fits binary64 h half;
+          finite-h = λ l. is-finite (h ⊗ half) (neg? h) (halved .0) (halved .2);
+          small = λ l. le-trans (le-of-eq (scaled (mag (h ⊗ half)) (halved .0) (mag h) (v .i) mag-half (halved .1))) (v .small (of-true taken));
+        }
+          where
+            is-finite : (x : Float) (s : Bool) (n : ℕ) → Is x s n → T (finite x)
+            is-finite nan s n i = i
+            is-finite (inf t) s n i = i
+            is-finite (fin t m d) s n i = tt
+
+            scaled : (g k m i : ℕ) → g ≡ k → m ≡ k * 2 → g * 2 ^ (i + 1) ≡ m * 2 ^ i
+            scaled g k m i p q =
+                ap (λ (n : ℕ). n * 2 ^ (i + 1)) p ∙ ap (λ (n : ℕ). k * n) (pow-add 2 i 1 ∙ native.Mathlib.Nat.mul-comm (2 ^ i) (2 ^ 1)) ∙ sym (mul-assoc k 2 (2 ^ i)) ∙ ap (λ (n : ℕ). n * 2 ^ i) (sym q)
+
+        pub found : {r : Stride} → Rattle.stride.specs.Shorten.afterAttempt h t ≡ out r → r ≡ halvingOf a b tol dir w h₀
+        found e = searched-leave (strideStep a b tol dir w) noStride (v .i) 37 below (rw (taken, ← et, e)) (v .same)
