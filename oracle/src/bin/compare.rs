@@ -1,12 +1,12 @@
-//! `compare solve SEED COUNT` runs a comparison; `compare record-solve SEED COUNT` writes a fixed list to standard output.
+//! `compare PART SEED COUNT` runs a comparison; `compare record-solve SEED COUNT` and `record-surface` write a fixed list to standard output.
 //! Ends with 1 where anything differs, and with 2 on bad usage.
 
-use oracle::compare::solve;
+use oracle::compare::{patch, solve, surface};
 use std::env;
 use std::process::ExitCode;
 
 fn usage() -> ExitCode {
-    eprintln!("usage: compare solve|record-solve SEED COUNT");
+    eprintln!("usage: compare solve|surface|patch|record-solve|record-surface SEED COUNT");
     ExitCode::from(2)
 }
 
@@ -20,6 +20,9 @@ fn main() -> ExitCode {
     };
     let fine = match what.as_str() {
         "solve" => solve::compare(seed, count) == 0,
+        "surface" => surface::compare(seed, count) == 0,
+        "patch" => patch::compare(seed, count) == 0,
+        "record-surface" => patch::record(seed, count).is_ok(),
         "record-solve" => solve::record(seed, count).is_ok(),
         _ => return usage(),
     };

@@ -1,6 +1,6 @@
 //! The square solvers: generated systems, the oracle's answers, the comparison and the fixed list.
 
-use super::word;
+use super::{UNTOUCHED, word};
 use crate::math::solve::{solve_2x2, solve_3x3, solve_4x4};
 use crate::probe;
 use crate::random::Random;
@@ -246,9 +246,6 @@ fn answer(n: usize, input: &[f64]) -> Option<Vec<f64>> {
         }
     }
 }
-
-/// What is in the output before the call, so that a word not written shows.
-const UNTOUCHED: f64 = 12345.5;
 
 /// Whether the proved code gives this answer, in bits, and leaves the rest of the output alone.
 fn agrees(s: &System, expected: &Option<Vec<f64>>) -> bool {
