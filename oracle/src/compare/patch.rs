@@ -1,7 +1,7 @@
 //! The fitness of a patch and the public point: generated patches around every boundary, the comparison, and the fixed list.
 
-use super::surface::{SPECIAL, derivatives, frame, parameter, point, wrote};
-use super::{UNTOUCHED, word};
+use super::surface::{derivatives, frame, parameter, point, wrote};
+use super::{SPECIAL, UNTOUCHED, word};
 use crate::patch::refusal;
 use crate::probe;
 use crate::random::Random;

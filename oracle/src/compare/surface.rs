@@ -1,34 +1,10 @@
 //! Points and first derivatives of the five kinds: generated surfaces and parameters, and the comparison in bits.
 
-use super::{UNTOUCHED, word};
+use super::{SPECIAL, UNTOUCHED, word};
 use crate::probe;
 use crate::random::Random;
 use crate::surface::Surface;
 use std::f64::consts::{FRAC_PI_2, PI};
-
-/// Numbers that branch, round away or overflow somewhere.
-pub(super) const SPECIAL: [f64; 20] = [
-    0.0,
-    -0.0,
-    1.0,
-    -1.0,
-    0.5,
-    1.5,
-    -1.5,
-    3.0,
-    1e-12,
-    1_048_576.0,
-    f64::MIN_POSITIVE,
-    5e-324,
-    -5e-324,
-    1e-300,
-    1e300,
-    f64::MAX,
-    f64::MIN,
-    f64::INFINITY,
-    f64::NEG_INFINITY,
-    f64::NAN,
-];
 
 const KINDS: [&str; 5] = ["plane", "cylinder", "cone", "sphere", "torus"];
 
