@@ -2,7 +2,6 @@
 //!
 //! The numbers: origin, x, y and z direction, two sizes (used ones first), and for a patch low and high of u, then of v. Kinds and marks
 //! are the job file's. Where the answer is not a point or a pair of derivatives, the output is as it was.
-use analytic::Derivatives;
 use analytic::Surface;
 use geometry::Frame3D;
 use geometry::Point3D;

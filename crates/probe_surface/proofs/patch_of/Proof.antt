@@ -21,7 +21,9 @@ window-requires-2 c κs = search needs
 
 returns : tie.Need-returns
 unfolding patchFrom
-returns c = rw (c .window2 .ensures, c .before .has-mark2 .ensures, c .before .before .window .ensures, c .before .before .before .has-mark .ensures, c .before .before .before .before .surface .ensures)
+returns c =
+    let e = c .before .before .before .before in
+    rw (c .window2 .ensures, c .before .has-mark2 .ensures, c .before .before .window .ensures, c .before .before .before .has-mark .ensures, e .surface .ensures)
 
 pub patch-of-spec : {M : Type 1} → statement M
 patch-of-spec = tie.close (tie.spec surface-requires has-mark-requires window-requires has-mark-requires-2 window-requires-2 returns)

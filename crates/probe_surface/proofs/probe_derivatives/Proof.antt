@@ -34,7 +34,10 @@ same-length c = search needs
 
 returns-4 : tie.Need-returns-4
 unfolding probeDerivatives
-returns-4 c = rw (le-ltb _ _ (c .before .before .before .before .before .before .before .before .before .before .before .before .before .before .if1 .left), le-ltb _ _ (c .before .before .before .before .before .before .before .before .before .before .before .before .before .if2 .left), le-ltb _ _ (c .before .before .before .before .before .before .before .before .before .before .before .before .if3 .left), ← c .before .before .before .before .before .before .before .before .before .before .before .surface .ensures, ← c .before .before .before .before .before .before .before .before .before .before .eval-d1 .ensures, ← c .before .before .before .before .before .before .put .ensures, ← c .before .before .put2 .ensures)
+returns-4 c =
+    let e = c .before .before .before .before .before .before in
+    let d = e .before .before .before .before in
+    rw (le-ltb _ _ (d .before .before .before .before .if1 .left), le-ltb _ _ (d .before .before .before .if2 .left), le-ltb _ _ (d .before .before .if3 .left), ← d .before .surface .ensures, ← d .eval-d1 .ensures, ← e .put .ensures, ← c .before .before .put2 .ensures)
 
 pub probe-derivatives-spec : {M : Type 1} → statement M
 probe-derivatives-spec = tie.close (tie.spec returns returns-2 returns-3 surface-requires eval-d1-requires put-requires put-requires-2 same-length returns-4)

@@ -41,14 +41,20 @@ put-requires c κs = search needs
 
 returns-5 : tie.Need-returns-5
 unfolding probeLocated
-returns-5 c = rw (le-ltb _ _ (c .before .before .before .before .before .before .before .before .before .if1 .left), le-ltb _ _ (c .before .before .before .before .before .before .before .before .if2 .left), le-ltb _ _ (c .before .before .before .before .before .before .before .if3 .left), le-ltb _ _ (c .before .before .before .before .before .before .if4 .left), ← c .before .before .before .before .before .patch-of .ensures, ← c .before .before .before .before .point .ensures, c .before .before .located .given .1, ← c .number .ensures)
+returns-5 c =
+    let e = c .before .before .before .before in
+    let d = e .before .before .before .before in
+    rw (le-ltb _ _ (d .before .if1 .left), le-ltb _ _ (d .if2 .left), le-ltb _ _ (e .before .before .before .if3 .left), le-ltb _ _ (e .before .before .if4 .left), ← e .before .patch-of .ensures, ← e .point .ensures, c .before .before .located .given .1, ← c .number .ensures)
 
 same-length : tie.Need-same-length
 same-length c = search needs
 
 returns-6 : tie.Need-returns-6
 unfolding probeLocated
-returns-6 c = rw (le-ltb _ _ (c .before .before .before .before .before .before .before .before .before .before .before .before .if1 .left), le-ltb _ _ (c .before .before .before .before .before .before .before .before .before .before .before .if2 .left), le-ltb _ _ (c .before .before .before .before .before .before .before .before .before .before .if3 .left), le-ltb _ _ (c .before .before .before .before .before .before .before .before .before .if4 .left), ← c .before .before .before .before .before .before .before .before .patch-of .ensures, ← c .before .before .before .before .before .before .before .point .ensures, c .before .before .before .before .before .located2 .given .1, ← c .before .before .put .ensures)
+returns-6 c =
+    let e = c .before .before .before .before .before in
+    let d = e .before .before .before .before in
+    rw (le-ltb _ _ (d .before .before .before .if1 .left), le-ltb _ _ (d .before .before .if2 .left), le-ltb _ _ (d .before .if3 .left), le-ltb _ _ (d .if4 .left), ← e .before .before .before .patch-of .ensures, ← e .before .before .point .ensures, e .located2 .given .1, ← c .before .before .put .ensures)
 
 pub probe-located-spec : {M : Type 1} → statement M
 probe-located-spec = tie.close (tie.spec returns returns-2 returns-3 returns-4 patch-of-requires point-requires enum-known-located number-requires enum-known-located-2 put-requires returns-5 same-length returns-6)

@@ -31,7 +31,10 @@ same-length c = search needs
 
 returns-4 : tie.Need-returns-4
 unfolding probePoint
-returns-4 c = rw (le-ltb _ _ (c .before .before .before .before .before .before .before .before .if1 .left), le-ltb _ _ (c .before .before .before .before .before .before .before .if2 .left), le-ltb _ _ (c .before .before .before .before .before .before .if3 .left), ← c .before .before .before .before .before .surface .ensures, ← c .before .before .before .before .eval-point .ensures, ← c .before .before .put .ensures)
+returns-4 c =
+    let e = c .before .before .before .before in
+    let d = e .before .before .before .before in
+    rw (le-ltb _ _ (d .if1 .left), le-ltb _ _ (e .before .before .before .if2 .left), le-ltb _ _ (e .before .before .if3 .left), ← e .before .surface .ensures, ← e .eval-point .ensures, ← c .before .before .put .ensures)
 
 pub probe-point-spec : {M : Type 1} → statement M
 probe-point-spec = tie.close (tie.spec returns returns-2 returns-3 surface-requires eval-point-requires put-requires same-length returns-4)
