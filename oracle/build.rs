@@ -1,14 +1,12 @@
-//! Links the archives of the proved code that `rt staticlib capi` and `rt staticlib probe` write.
+//! Links the archives of the proved code that `rt staticlib` writes.
 use std::path::Path;
 
 fn main() {
     let root = Path::new(env!("CARGO_MANIFEST_DIR")).join("../target/staticlib");
     println!("cargo:rustc-link-search=native={}", root.display());
-    for name in ["capi", "probe"] {
+    for name in ["probe", "probe_surface", "capi"] {
         println!("cargo:rustc-link-lib=static={name}");
-        println!(
-            "cargo:rerun-if-changed={}",
-            root.join(format!("lib{name}.a")).display()
-        );
+        let archive = root.join(format!("lib{name}.a"));
+        println!("cargo:rerun-if-changed={}", archive.display());
     }
 }

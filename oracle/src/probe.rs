@@ -1,9 +1,30 @@
-//! The proved code, through the crate `probe`. A Rattle slice passes to C as a pointer and a length.
+//! The proved code, through the crates `probe` and `probe_surface`. A Rattle slice passes to C as a pointer and a length.
 
 unsafe extern "C" {
     fn probe_solve_2x2(input: *const f64, inputs: usize, output: *mut f64, outputs: usize) -> u64;
     fn probe_solve_3x3(input: *const f64, inputs: usize, output: *mut f64, outputs: usize) -> u64;
     fn probe_solve_4x4(input: *const f64, inputs: usize, output: *mut f64, outputs: usize) -> u64;
+    fn probe_point(k: u64, n: *const f64, ns: usize, u: f64, v: f64, o: *mut f64, os: usize)
+    -> u64;
+    fn probe_derivatives(
+        k: u64,
+        n: *const f64,
+        ns: usize,
+        u: f64,
+        v: f64,
+        o: *mut f64,
+        os: usize,
+    ) -> u64;
+    fn probe_located(
+        kind: u64,
+        marks: u64,
+        numbers: *const f64,
+        count: usize,
+        u: f64,
+        v: f64,
+        output: *mut f64,
+        outputs: usize,
+    ) -> u64;
 }
 
 /// The answer word for a system of `n` unknowns: the matrix row by row, the right side, tol.
@@ -21,6 +42,50 @@ pub(crate) fn solve(n: usize, input: &[f64], output: &mut [f64]) -> u64 {
             input.len(),
             output.as_mut_ptr(),
             output.len(),
+        )
+    }
+}
+
+/// Kind, numbers with their count, u, v, output with its length.
+type Evaluation = unsafe extern "C" fn(u64, *const f64, usize, f64, f64, *mut f64, usize) -> u64;
+
+fn evaluate(call: Evaluation, kind: u64, n: &[f64], u: f64, v: f64, output: &mut [f64]) -> u64 {
+    let (count, outputs) = (n.len(), output.len());
+    // SAFETY: as in `solve`.
+    unsafe { call(kind, n.as_ptr(), count, u, v, output.as_mut_ptr(), outputs) }
+}
+
+/// 1 and the point, or 0.
+pub(crate) fn point(kind: u64, numbers: &[f64], u: f64, v: f64, output: &mut [f64]) -> u64 {
+    evaluate(probe_point, kind, numbers, u, v, output)
+}
+
+/// 1 and both first derivatives, or 0.
+pub(crate) fn derivatives(kind: u64, numbers: &[f64], u: f64, v: f64, output: &mut [f64]) -> u64 {
+    evaluate(probe_derivatives, kind, numbers, u, v, output)
+}
+
+/// 0 and the public point, or a refusal's number.
+pub(crate) fn located(
+    kind: u64,
+    marks: u64,
+    numbers: &[f64],
+    u: f64,
+    v: f64,
+    output: &mut [f64],
+) -> u64 {
+    let (count, outputs) = (numbers.len(), output.len());
+    // SAFETY: as in `solve`.
+    unsafe {
+        probe_located(
+            kind,
+            marks,
+            numbers.as_ptr(),
+            count,
+            u,
+            v,
+            output.as_mut_ptr(),
+            outputs,
         )
     }
 }

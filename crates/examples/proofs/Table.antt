@@ -2,14 +2,22 @@
 use mathlib.Core.Path.{refl}
 use lib.Ieee.{toBits, ofBits}
 use Rattle.sqrt.specs.Sqrt.{sqrtOf}
+use Rattle.geometry.specs.Vector.{vectorOf, scaleOf}
+use Rattle.geometry.specs.Point.{pointOf, addVectorOf}
+use Rattle.geometry.specs.Frame.{pointAtOf}
+use Rattle.analytic.specs.Analytic.{planeD0, cylinderD0}
+use Rattle.analytic.specs.Surface.{evalPoint}
+use Rattle.fdlibm.proofs.Examples as fdlibm
 use Rattle.solve.proofs.Computing as solve
 use Rattle.boxes.proofs.Computing as boxes
 use Rattle.examples.specs.Table.{Table}
 
 pub table : Table
-unfolding solve.computing boxes.computing sqrtOf toBits ofBits
+unfolding evalPoint planeD0 cylinderD0 pointAtOf addVectorOf scaleOf pointOf vectorOf fdlibm.computing solve.computing boxes.computing sqrtOf toBits ofBits
 table =
     record {
+      row1 = refl;
+      row2 = refl;
       row3 = refl;
       row4 = refl;
       row5 = (refl, λ right. refl);

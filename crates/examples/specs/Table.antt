@@ -10,6 +10,12 @@ use Rattle.geometry.specs.declared.tolerance.Tolerance.{Tolerance}
 use Rattle.boxes.specs.declared.boxtree.Aabb.{Aabb}
 use Rattle.boxes.specs.declared.crossing.Crossed.the-variants as crossed
 use Rattle.boxes.specs.Crossing.{crossingOf}
+use Rattle.geometry.specs.declared.point.Point3D.{Point3D}
+use Rattle.geometry.specs.declared.frame.Frame3D.{Frame3D}
+use Rattle.geometry.specs.Vector.{vectorOf}
+use Rattle.geometry.specs.Point.{pointOf}
+use Rattle.analytic.specs.declared.surface.Surface.the-variants.{Plane, Cylinder}
+use Rattle.analytic.specs.Surface.{evalPoint}
 use Rattle.sqrt.specs.Sqrt.{sqrtOf}
 use Rattle.solve.specs.Solve.{solve2Of, solve3Of}
 use Rattle.solve.specs.declared.Solved2.the-variants as solved2
@@ -25,8 +31,17 @@ one = bits 0x3ff0_0000_0000_0000
 abbrev pub two : Float
 two = bits 0x4000_0000_0000_0000
 
+abbrev pub -two : Float
+-two = bits 0xc000_0000_0000_0000
+
+abbrev pub three : Float
+three = bits 0x4008_0000_0000_0000
+
 abbrev pub four : Float
 four = bits 0x4010_0000_0000_0000
+
+abbrev pub five : Float
+five = bits 0x4014_0000_0000_0000
 
 -- 1e-12 and 4e-12
 abbrev pub 1e-12 : Float
@@ -61,7 +76,15 @@ confusion20 t = record { confusion = bits 0x3eb0_0000_0000_0000; angular = bits 
 abbrev pub boxAt : Float → Float → Float → Aabb
 boxAt x y z = record { low = record { x = x; y = y; z = z }; high = record { x = x; y = y; z = z } }
 
+-- ""Unit frame" is origin 0 with axes (1,0,0), (0,1,0), (0,0,1)."
+abbrev pub unitFrame : Frame3D
+unitFrame = record { origin = pointOf zero zero zero; x = vectorOf one zero zero; y = vectorOf zero one zero; z = vectorOf zero zero one }
+
 pub record Table : Type 0 where
+  -- "Plane, unit frame, (3, -2): point (3, -2, 0)."
+  pub row1 : evalPoint (Plane unitFrame) three -two ≡ pointOf three -two zero
+  -- "Cylinder radius 2, unit frame, (0, 5): (2, 0, 5)."
+  pub row2 : evalPoint (Cylinder unitFrame two) zero five ≡ pointOf two zero five
   -- "Square root of 2: bits hexadecimal 3ff6a09e667f3bcd."
   pub row3 : toBits binary64 (sqrtOf two) ≡ 0x3ff6a09e667f3bcd
   -- "Square root of 2^-1074: 2^-537."

@@ -1,12 +1,12 @@
 //! `compare PART SEED COUNT` runs a comparison; `compare record-PART SEED COUNT` writes a fixed list to standard output.
-//! Parts: solve, crossing. Ends with 1 where anything differs, and with 2 on bad usage.
+//! Parts: solve, surface, patch, crossing (lists: solve, surface, crossing). Ends with 1 where anything differs, and with 2 on bad usage.
 
-use oracle::compare::{crossing, solve};
+use oracle::compare::{crossing, patch, solve, surface};
 use std::env;
 use std::process::ExitCode;
 
 fn usage() -> ExitCode {
-    eprintln!("usage: compare [record-]solve|[record-]crossing SEED COUNT");
+    eprintln!("usage: compare [record-]solve|[record-]surface|patch|[record-]crossing SEED COUNT");
     ExitCode::from(2)
 }
 
@@ -22,6 +22,9 @@ fn main() -> ExitCode {
         "crossing" => crossing::compare(seed, count) == 0,
         "record-crossing" => crossing::record(seed, count).is_ok(),
         "solve" => solve::compare(seed, count) == 0,
+        "surface" => surface::compare(seed, count) == 0,
+        "patch" => patch::compare(seed, count) == 0,
+        "record-surface" => patch::record(seed, count).is_ok(),
         "record-solve" => solve::record(seed, count).is_ok(),
         _ => return usage(),
     };

@@ -1,6 +1,6 @@
 //! The square solvers: generated systems, the oracle's answers, the comparison and the fixed list.
 
-use super::word;
+use super::{SPECIAL, UNTOUCHED, word};
 use crate::math::solve::{solve_2x2, solve_3x3, solve_4x4};
 use crate::probe;
 use crate::random::Random;
@@ -8,32 +8,6 @@ use std::io::{self, Write};
 
 /// Words of a record of the fixed list: the size, the input (21 at most), the answer word, the solution (4 at most).
 const RECORD: usize = 1 + 21 + 1 + 4;
-
-/// Numbers that branch or overflow somewhere in a solver.
-const SPECIAL: [f64; 22] = [
-    0.0,
-    -0.0,
-    1.0,
-    -1.0,
-    0.5,
-    3.0,
-    1e-12,
-    4e-12,
-    -1e-12,
-    f64::MIN_POSITIVE,
-    -f64::MIN_POSITIVE,
-    5e-324,
-    -5e-324,
-    1e-300,
-    1e300,
-    f64::MAX,
-    f64::MIN,
-    f64::INFINITY,
-    f64::NEG_INFINITY,
-    f64::NAN,
-    f64::EPSILON,
-    1.0 + f64::EPSILON,
-];
 
 /// Other tolerances than 1e-12: both zeros, powers of two that small whole numbers meet exactly, and hostile ones.
 const TOLERANCES: [f64; 14] = [
@@ -246,9 +220,6 @@ fn answer(n: usize, input: &[f64]) -> Option<Vec<f64>> {
         }
     }
 }
-
-/// What is in the output before the call, so that a word not written shows.
-const UNTOUCHED: f64 = 12345.5;
 
 /// Whether the proved code gives this answer, in bits, and leaves the rest of the output alone.
 fn agrees(s: &System, expected: &Option<Vec<f64>>) -> bool {
