@@ -4,15 +4,17 @@ use lib.Ieee.{toBits, ofBits}
 use Rattle.sqrt.specs.Sqrt.{sqrtOf}
 use Rattle.solve.proofs.Computing as solve
 use Rattle.boxes.proofs.Computing as boxes
+use Rattle.marching.specs.Leaving.{leavingOf, firstOf, considerOf, lesserOf}
 use Rattle.examples.specs.Table.{Table}
 
 pub table : Table
-unfolding solve.computing boxes.computing sqrtOf toBits ofBits
+unfolding solve.computing boxes.computing leavingOf firstOf considerOf lesserOf sqrtOf toBits ofBits
 table =
     record {
       row3 = refl;
       row4 = refl;
       row5 = (refl, λ right. refl);
       row6 = (refl, λ right. refl);
+      row7 = (λ a b. refl, λ a b. refl);
       row8 = (λ p t. refl, λ p t. refl);
     }
