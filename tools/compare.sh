@@ -1,6 +1,6 @@
 #!/usr/bin/env bash
-# compare.sh PART SEED COUNT: builds the archive of the proved code and the oracle, and compares them. Ends non-zero on any difference.
-# Parts: solve, crossing.
+# compare.sh PART SEED COUNT: builds the archives of the proved code and the oracle, and compares them. Ends non-zero on any difference.
+# Parts: solve, crossing, marching.
 set -eu
 cd "$(dirname "$0")/.."
 if [ $# -ne 3 ]; then
@@ -9,5 +9,6 @@ if [ $# -ne 3 ]; then
 fi
 rt staticlib capi >/dev/null
 rt staticlib probe >/dev/null
+rt staticlib probe_marching >/dev/null
 cargo test --quiet --release --offline --manifest-path oracle/Cargo.toml
 exec cargo run --quiet --release --offline --manifest-path oracle/Cargo.toml --bin compare -- "$@"

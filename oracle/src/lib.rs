@@ -2,15 +2,21 @@
 
 mod capi;
 pub mod compare;
+mod frame;
 mod intersect;
 mod math;
+mod ours;
 #[allow(dead_code)]
 mod point;
 mod probe;
 pub mod random;
+mod surface_math;
+mod surfaces;
 mod tolerance;
 #[allow(dead_code)]
 mod vector;
 
+use frame::Frame3D;
 use point::Point3D;
 use tolerance::Tolerance;
+use vector::Vector3D;

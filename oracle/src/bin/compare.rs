@@ -1,12 +1,12 @@
 //! `compare PART SEED COUNT` runs a comparison; `compare record-PART SEED COUNT` writes a fixed list to standard output.
-//! Parts: solve, crossing. Ends with 1 where anything differs, and with 2 on bad usage.
+//! Parts: solve, crossing, marching. Ends with 1 where anything differs, and with 2 on bad usage.
 
-use oracle::compare::{crossing, solve};
+use oracle::compare::{crossing, marching, solve};
 use std::env;
 use std::process::ExitCode;
 
 fn usage() -> ExitCode {
-    eprintln!("usage: compare [record-]solve|[record-]crossing SEED COUNT");
+    eprintln!("usage: compare [record-]solve|[record-]crossing|[record-]marching SEED COUNT");
     ExitCode::from(2)
 }
 
@@ -21,6 +21,8 @@ fn main() -> ExitCode {
     let fine = match what.as_str() {
         "crossing" => crossing::compare(seed, count) == 0,
         "record-crossing" => crossing::record(seed, count).is_ok(),
+        "marching" => marching::compare(seed, count) == 0,
+        "record-marching" => marching::record(seed, count).is_ok(),
         "solve" => solve::compare(seed, count) == 0,
         "record-solve" => solve::record(seed, count).is_ok(),
         _ => return usage(),
