@@ -521,6 +521,17 @@ fn answered(step: Step, said: u64) -> bool {
     }
 }
 
+/// Whether a landing's value lies inside the pin's window, or that has a mark: the walk makes no other. Other steps have no pin.
+fn lands_inside(c: &Call) -> bool {
+    let Step::Land(pin) = c.step else {
+        return true;
+    };
+    let k = pin as usize;
+    let s = if k < 2 { &c.a } else { &c.b };
+    let (low, high) = s.windows[k % 2];
+    s.marks[k % 2] || low <= c.rest[0] && c.rest[0] <= high
+}
+
 /// Compares `count` calls of each function. Returns how many differ.
 pub fn compare(seed: u64, count: u64) -> u64 {
     let mut differ = short_slices();
@@ -529,6 +540,7 @@ pub fn compare(seed: u64, count: u64) -> u64 {
         let mut calls = [0u64; KINDS.len()];
         let mut yes = [0u64; KINDS.len()];
         let mut changed = [0u64; KINDS.len()];
+        let mut changed_inside = 0u64;
         let mut pairs = [0u64; 25];
         let mut wrong = 0;
         for i in 0..count {
@@ -543,6 +555,7 @@ pub fn compare(seed: u64, count: u64) -> u64 {
                 let as_it_was = answer(&c, Windows::Ignored);
                 let same = as_it_was.0 == expected.0 && same_words(&as_it_was.1, &expected.1);
                 changed[c.kind] += u64::from(!same);
+                changed_inside += u64::from(!same && lands_inside(&c));
             }
             if !agrees(&c, &expected) {
                 wrong += 1;
@@ -559,7 +572,7 @@ pub fn compare(seed: u64, count: u64) -> u64 {
         let (all, least) = (yes.iter().sum::<u64>(), pairs.iter().min().unwrap_or(&0));
         let turned: u64 = changed.iter().sum();
         println!(
-            "{name}: {count} compared, {wrong} differ ({all} with an answer, of a pair of kinds at least {least}; the window test changes {turned})"
+            "{name}: {count} compared, {wrong} differ ({all} with an answer, of a pair of kinds at least {least}; the window test changes {turned}, {changed_inside} of them with no pin or with one inside its window)"
         );
         for (k, kind) in KINDS.iter().enumerate() {
             println!(
