@@ -183,8 +183,8 @@ fn window(r: &mut Random, at: f64, reach: f64) -> (f64, f64) {
 }
 
 fn windows(r: &mut Random, s: &mut Patch, at: [f64; 2], reach: f64) {
-    for k in 0..2 {
-        s.windows[k] = window(r, at[k], reach);
+    for (k, x) in at.into_iter().enumerate() {
+        s.windows[k] = window(r, x, reach);
         s.marks[k] = is_angle(s.kind, k) && r.one_in(3);
     }
 }
@@ -322,8 +322,8 @@ fn asked(r: &mut Random, c: &Call, at: [f64; 4]) -> [f64; 6] {
         Step::Leaving if c.kind == 9 => rest.fill_with(|| eighth(r)),
         Step::Leaving => {
             let reach = r.pick(&[0.01, 0.1, 1.0, 5.0]);
-            for k in 0..4 {
-                rest[k] = c.x[k] + reach * r.signed_unit();
+            for (to, from) in rest.iter_mut().zip(c.x) {
+                *to = from + reach * r.signed_unit();
             }
         }
         Step::MeetInPlane => {
@@ -614,4 +614,49 @@ pub fn record(seed: u64, count: u64) -> io::Result<()> {
         }
     }
     Ok(())
+}
+
+#[cfg(test)]
+mod tests {
+    use super::*;
+
+    /// The same plane twice, windows 0 to 1, no marks, all parameters 0.5.
+    fn unit_windows(step: Step, rest: [f64; 6]) -> Call {
+        let mut plane = patch(&mut Random::new(1), 0);
+        plane.windows = [(0.0, 1.0); 2];
+        Call {
+            kind: 0,
+            step,
+            a: plane,
+            b: plane,
+            tol: Tolerance {
+                confusion: 1e-7,
+                angular: 1e-12,
+                parametric: 0.0,
+            },
+            x: [0.5; 4],
+            rest,
+        }
+    }
+
+    #[test]
+    fn the_scope_s_example_7() {
+        let both = unit_windows(Step::Leaving, [1.5, 0.5, 1.5, 0.5, 0.0, 0.0]);
+        let last = unit_windows(Step::Leaving, [1.5, 0.5, 0.5, -1.5, 0.0, 0.0]);
+        for (c, expected) in [(both, (0, vec![1.0])), (last, (3, vec![0.0]))] {
+            assert_eq!(answer(&c, Windows::Asked), expected);
+            assert!(agrees(&c, &expected));
+        }
+    }
+
+    #[test]
+    fn the_window_test_refuses_a_landing_off_the_pin_s_window() {
+        let mut c = unit_windows(Step::Land(0), [1.5, 0.0, 0.0, 0.0, 0.0, 0.0]);
+        c.b.windows = [(0.0, 2.0); 2];
+        c.x = [0.5, 0.5, 1.5, 0.5];
+        let met = (1, vec![1.5, 0.5, 1.5, 0.5]);
+        assert_eq!(answer(&c, Windows::Ignored), met);
+        assert_ne!(answer(&c, Windows::Asked), met);
+        assert!(agrees(&c, &answer(&c, Windows::Asked)));
+    }
 }
