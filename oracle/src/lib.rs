@@ -13,6 +13,7 @@ mod probe;
 pub mod random;
 mod surface;
 mod surface_math;
+mod surfaces;
 mod tolerance;
 #[allow(dead_code)]
 mod vector;

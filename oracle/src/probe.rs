@@ -1,4 +1,4 @@
-//! The proved code, through the crates `probe` and `probe_surface`. A Rattle slice passes to C as a pointer and a length.
+//! The proved code, through the crates `probe`, `probe_surface` and `probe_marching`. A Rattle slice passes to C as a pointer and a length.
 
 unsafe extern "C" {
     fn probe_solve_2x2(input: *const f64, inputs: usize, output: *mut f64, outputs: usize) -> u64;
@@ -87,5 +87,53 @@ pub(crate) fn located(
             output.as_mut_ptr(),
             outputs,
         )
+    }
+}
+
+unsafe extern "C" {
+    fn probe_tangent(input: *const f64, inputs: usize, output: *mut f64, outputs: usize) -> u64;
+    fn probe_predict(input: *const f64, inputs: usize, output: *mut f64, outputs: usize) -> u64;
+    fn probe_leaving(input: *const f64, inputs: usize, output: *mut f64, outputs: usize) -> u64;
+    fn probe_meet(input: *const f64, inputs: usize, output: *mut f64, outputs: usize) -> u64;
+    fn probe_meet_in_plane(
+        input: *const f64,
+        inputs: usize,
+        output: *mut f64,
+        outputs: usize,
+    ) -> u64;
+    fn probe_land(
+        input: *const f64,
+        inputs: usize,
+        pin: u64,
+        output: *mut f64,
+        outputs: usize,
+    ) -> u64;
+}
+
+/// A step of the walk.
+#[derive(Clone, Copy, PartialEq, Debug)]
+pub(crate) enum Step {
+    Tangent,
+    Predict,
+    Leaving,
+    Meet,
+    MeetInPlane,
+    Land(u64),
+}
+
+/// The answer word of a step, through the crate `probe_marching`.
+pub(crate) fn step(step: Step, input: &[f64], output: &mut [f64]) -> u64 {
+    let (s, n) = (input.as_ptr(), input.len());
+    let (t, m) = (output.as_mut_ptr(), output.len());
+    // SAFETY: each pointer comes with the length of the slice it was taken from, and the callee keeps neither.
+    unsafe {
+        match step {
+            Step::Tangent => probe_tangent(s, n, t, m),
+            Step::Predict => probe_predict(s, n, t, m),
+            Step::Leaving => probe_leaving(s, n, t, m),
+            Step::Meet => probe_meet(s, n, t, m),
+            Step::MeetInPlane => probe_meet_in_plane(s, n, t, m),
+            Step::Land(pin) => probe_land(s, n, pin, t, m),
+        }
     }
 }

@@ -10,10 +10,11 @@ use Rattle.analytic.specs.Surface.{evalPoint}
 use Rattle.fdlibm.proofs.Examples as fdlibm
 use Rattle.solve.proofs.Computing as solve
 use Rattle.boxes.proofs.Computing as boxes
+use Rattle.marching.specs.Leaving.{leavingOf, firstOf, considerOf, lesserOf}
 use Rattle.examples.specs.Table.{Table}
 
 pub table : Table
-unfolding evalPoint planeD0 cylinderD0 pointAtOf addVectorOf scaleOf pointOf vectorOf fdlibm.computing solve.computing boxes.computing sqrtOf toBits ofBits
+unfolding evalPoint planeD0 cylinderD0 pointAtOf addVectorOf scaleOf pointOf vectorOf fdlibm.computing solve.computing boxes.computing leavingOf firstOf considerOf lesserOf sqrtOf toBits ofBits
 table =
     record {
       row1 = refl;
@@ -22,5 +23,6 @@ table =
       row4 = refl;
       row5 = (refl, λ right. refl);
       row6 = (refl, λ right. refl);
+      row7 = (λ a b. refl, λ a b. refl);
       row8 = (λ p t. refl, λ p t. refl);
     }

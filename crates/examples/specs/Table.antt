@@ -7,6 +7,11 @@ use lib.IntN.{negsuc}
 use lib.Ieee.{Float, fin, binary64, toBits}
 use Rattle.number.specs.Operators.{bits}
 use Rattle.geometry.specs.declared.tolerance.Tolerance.{Tolerance}
+use Rattle.analytic.specs.declared.surface.Surface.{Surface}
+use Rattle.patch.specs.declared.patch.Patch.{Patch}
+use Rattle.patch.specs.declared.patch.Parameters.{Parameters}
+use Rattle.marching.specs.declared.leaving.Exit.the-variants as exit
+use Rattle.marching.specs.Leaving.{leavingOf}
 use Rattle.boxes.specs.declared.boxtree.Aabb.{Aabb}
 use Rattle.boxes.specs.declared.crossing.Crossed.the-variants as crossed
 use Rattle.boxes.specs.Crossing.{crossingOf}
@@ -58,6 +63,28 @@ over2 e = fin false 1 (negsuc (e - 1))
 abbrev pub diagonal : Float → Float → Float → List (List Float)
 diagonal a b c = (a ∷ zero ∷ zero ∷ []) ∷ (zero ∷ b ∷ zero ∷ []) ∷ (zero ∷ zero ∷ c ∷ []) ∷ []
 
+-- 0.5 and 1.5, and -1.5
+abbrev pub half : Float
+half = bits 0x3fe0_0000_0000_0000
+
+abbrev pub threeHalves : Float
+threeHalves = bits 0x3ff8_0000_0000_0000
+
+abbrev pub minusThreeHalves : Float
+minusThreeHalves = bits 0xbff8_0000_0000_0000
+
+-- "Windows all 0 to 1, no marks", whatever the surface
+abbrev pub unitPatch : Surface → Patch
+unitPatch s = record {
+  surface = s;
+  u = record { low = zero; high = one; turn = false };
+  v = record { low = zero; high = one; turn = false };
+}
+
+-- (u1, v1, u2, v2)
+abbrev pub parameters : Float → Float → Float → Float → Parameters
+parameters u1 v1 u2 v2 = record { u1 = u1; v1 = v1; u2 = u2; v2 = v2 }
+
 -- a point's seven numbers at (x, 0, 0), whatever its parameters
 abbrev pub onAxis : Float → (ℕ → Float) → List Float
 onAxis x p = x ∷ zero ∷ zero ∷ p 0 ∷ p 1 ∷ p 2 ∷ p 3 ∷ []
@@ -97,6 +124,14 @@ pub record Table : Type 0 where
   pub row6 :
       (solve3Of (diagonal one one 4e-12) (one ∷ two ∷ 4e-12 ∷ []) 1e-12 ≡ solved3.Solution (record { x0 = one; x1 = two; x2 = one }))
       × ((right : List Float) → solve3Of (diagonal one one 1e-12) right 1e-12 ≡ solved3.Singular)
+  -- "Windows all 0 to 1, no marks, from 0.5 four times to (1.5, 0.5, 1.5, 0.5): leaves at index 0, bound 1. To (1.5, 0.5, 0.5, -1.5):
+  -- index 3, bound 0."
+  pub row7 :
+      ((a b : Surface)
+      → leavingOf (unitPatch a) (unitPatch b) (parameters half half half half) (parameters threeHalves half threeHalves half) ≡ exit.At 0 one)
+      × ((a b : Surface)
+      → leavingOf (unitPatch a) (unitPatch b) (parameters half half half half) (parameters threeHalves half half minusThreeHalves)
+      ≡ exit.At 3 zero)
   -- "Points (0,0,0), (0.1,0,0), (0.2,0,0), (0.3,0,0), confusion 2^-20, angular 1e-12: the box that is the point (0.15, 0.005, 0) is
   -- crossed, (0.15, 0.01, 0) is not."
   pub row8 :

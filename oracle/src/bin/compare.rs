@@ -1,12 +1,12 @@
 //! `compare PART SEED COUNT` runs a comparison; `compare record-PART SEED COUNT` writes a fixed list to standard output.
-//! Parts: solve, surface, patch, crossing (lists: solve, surface, crossing). Ends with 1 where anything differs, and with 2 on bad usage.
+//! Parts: solve, surface, patch, marching, crossing (lists of all but patch). Ends with 1 where anything differs, and with 2 on bad usage.
 
-use oracle::compare::{crossing, patch, solve, surface};
+use oracle::compare::{crossing, marching, patch, solve, surface};
 use std::env;
 use std::process::ExitCode;
 
 fn usage() -> ExitCode {
-    eprintln!("usage: compare [record-]solve|[record-]surface|patch|[record-]crossing SEED COUNT");
+    eprintln!("usage: compare [record-]solve|[record-]surface|patch|[record-]marching|[record-]crossing SEED COUNT");
     ExitCode::from(2)
 }
 
@@ -21,6 +21,8 @@ fn main() -> ExitCode {
     let fine = match what.as_str() {
         "crossing" => crossing::compare(seed, count) == 0,
         "record-crossing" => crossing::record(seed, count).is_ok(),
+        "marching" => marching::compare(seed, count) == 0,
+        "record-marching" => marching::record(seed, count).is_ok(),
         "solve" => solve::compare(seed, count) == 0,
         "surface" => surface::compare(seed, count) == 0,
         "patch" => patch::compare(seed, count) == 0,

@@ -1,6 +1,7 @@
 //! The comparisons: each runs both sides on generated inputs and compares every bit, all NaNs being one.
 
 pub mod crossing;
+pub mod marching;
 pub mod patch;
 pub mod solve;
 pub mod surface;

@@ -1,10 +1,14 @@
-// From geomcore at a20e012915, `src/intersect/marching.rs`, licensed MIT OR Apache-2.0: what one crossing needs.
+// From geomcore at a20e012915, `src/intersect/marching.rs`, licensed MIT OR Apache-2.0: what one crossing and the steps of the walk need.
+// `tangent`, `predict`, `meet`, `param_bounds`, `within_bounds`, `leaving` and `land` are carried over unchanged, but for the window test
+// that the scope adds to `meet` and `land`: each changed line says so. Square roots are the hardware's, which round as ours do.
 // `Traced::of` holds the lines of `Traced::follow` that make a trace's boxes, for a trace that is handed in; `crosses`,
 // `segment_meets_box` and the constants are carried over unchanged.
 
 use super::pieces;
 use crate::math::boxtree::{Aabb, boxes_apart};
-use crate::{Point3D, Tolerance};
+use crate::math::solve::{solve_2x2, solve_3x3, solve_4x4};
+use crate::surfaces::ParametricSurface;
+use crate::{Point3D, Tolerance, Vector3D};
 
 /// The curves traced so far as polylines: the box around each, the boxes
 /// around its runs of `RUN` segments, and its points.
@@ -73,3 +77,245 @@ pub(crate) fn segment_meets_box(p: Point3D, q: Point3D, b: &Aabb) -> bool {
 /// Chord deviation allowed per traced step, in multiples of
 /// `tol.confusion`.
 const CHORD_DEVIATION: f64 = 1000.0;
+
+/// Added by the scope: "Both tests also ask that every parameter lie inside its window where that has no turn mark." `Ignored` is the Rust
+/// as it was, so that what the test changes can be counted.
+#[derive(Clone, Copy)]
+pub(crate) enum Windows {
+    Asked,
+    Ignored,
+}
+
+impl Windows {
+    fn hold<A, B>(self, a: &A, b: &B, x: [f64; 4]) -> bool
+    where
+        A: ParametricSurface,
+        B: ParametricSurface,
+    {
+        let inside =
+            |k: usize| param_bounds(a, b, k).is_none_or(|(lo, hi)| lo <= x[k] && x[k] <= hi);
+        match self {
+            Windows::Asked => (0..4).all(inside),
+            Windows::Ignored => true,
+        }
+    }
+}
+
+/// Unit tangent `N1 x N2` of the intersection at parameters `x`, or `None`
+/// where the surfaces are tangent or a normal degenerates.
+pub(crate) fn tangent<A, B>(a: &A, b: &B, x: [f64; 4], tol: Tolerance) -> Option<Vector3D>
+where
+    A: ParametricSurface,
+    B: ParametricSurface,
+{
+    let (_, [au, av]) = a.eval_d1(x[0], x[1]);
+    let (_, [bu, bv]) = b.eval_d1(x[2], x[3]);
+    let (na, nb) = (au.cross(av), bu.cross(bv));
+    let t = na.cross(nb);
+    let scale = na.magnitude() * nb.magnitude();
+    if t.magnitude() <= tol.angular * scale.max(f64::MIN_POSITIVE) {
+        None
+    } else {
+        Some(t * (1.0 / t.magnitude()))
+    }
+}
+
+/// Parameters `x` moved to first order by the displacement `d` on both
+/// surfaces (unchanged on a surface whose tangent plane degenerates).
+pub(crate) fn predict<A, B>(a: &A, b: &B, x: [f64; 4], d: Vector3D) -> [f64; 4]
+where
+    A: ParametricSurface,
+    B: ParametricSurface,
+{
+    let shift = |s: &dyn ParametricSurface, u: f64, v: f64| {
+        let (_, [su, sv]) = s.eval_d1(u, v);
+        let m = [[su.dot(su), su.dot(sv)], [su.dot(sv), sv.dot(sv)]];
+        solve_2x2(m, [su.dot(d), sv.dot(d)], 1e-12).unwrap_or([0.0, 0.0])
+    };
+    let [du1, dv1] = shift(a, x[0], x[1]);
+    let [du2, dv2] = shift(b, x[2], x[3]);
+    [x[0] + du1, x[1] + dv1, x[2] + du2, x[3] + dv2]
+}
+
+/// Newton's method for a point on both surfaces from parameters
+/// `x = [u1, v1, u2, v2]`: solves `S1(u1, v1) = S2(u2, v2)`, together with
+/// `(S1 - origin) . normal = 0` when `plane` is given; without it the
+/// minimum-norm step heads for the nearest intersection point. Steps are
+/// halved until the residual drops, and non-periodic parameters stay in
+/// their bounds. `None` when it does not converge to `confusion`.
+pub(crate) fn meet<A, B>(
+    a: &A,
+    b: &B,
+    x: [f64; 4],
+    plane: Option<(Point3D, Vector3D)>,
+    tol: Tolerance,
+    windows: Windows, // changed: added
+) -> Option<[f64; 4]>
+where
+    A: ParametricSurface,
+    B: ParametricSurface,
+{
+    let bounded = |x: [f64; 4]| within_bounds(a, b, x);
+    let residual = |x: [f64; 4]| {
+        let pa = a.eval_point(x[0], x[1]);
+        let f = pa - b.eval_point(x[2], x[3]);
+        let r = plane.map_or(0.0, |(origin, normal)| (pa - origin).dot(normal));
+        (f, r, f.dot(f) + r * r)
+    };
+    let mut x = bounded(x);
+    let (mut f, mut r, mut merit) = residual(x);
+    for _ in 0..32 {
+        let met = f.magnitude() <= 0.1 * tol.confusion && r.abs() <= 0.1 * tol.confusion;
+        if met && windows.hold(a, b, x)
+        // changed: the window test
+        {
+            return Some(x);
+        }
+        let (_, [au, av]) = a.eval_d1(x[0], x[1]);
+        let (_, [bu, bv]) = b.eval_d1(x[2], x[3]);
+        let cols = [au, av, -bu, -bv];
+        let delta = match plane {
+            Some((_, normal)) => {
+                let m = [
+                    cols.map(|c| c.x),
+                    cols.map(|c| c.y),
+                    cols.map(|c| c.z),
+                    [cols[0].dot(normal), cols[1].dot(normal), 0.0, 0.0],
+                ];
+                solve_4x4(m, [-f.x, -f.y, -f.z, -r], 1e-12)?
+            }
+            None => {
+                // Minimum-norm step `J^T y` with `J J^T y = -f`.
+                let rows = [cols.map(|c| c.x), cols.map(|c| c.y), cols.map(|c| c.z)];
+                let dot = |p: [f64; 4], q: [f64; 4]| (0..4).map(|k| p[k] * q[k]).sum::<f64>();
+                let m = rows.map(|p| rows.map(|q| dot(p, q)));
+                let y = solve_3x3(m, [-f.x, -f.y, -f.z], 1e-12)?;
+                cols.map(|c| c.dot(Vector3D::new(y[0], y[1], y[2])))
+            }
+        };
+        let mut scale = 1.0;
+        let mut improved = false;
+        for _ in 0..12 {
+            let trial = bounded([0, 1, 2, 3].map(|k| x[k] + scale * delta[k]));
+            let (tf, tr, tm) = residual(trial);
+            if tm < merit {
+                (x, f, r, merit) = (trial, tf, tr, tm);
+                improved = true;
+                break;
+            }
+            scale *= 0.5;
+        }
+        if !improved {
+            break;
+        }
+    }
+    let met = f.magnitude() <= tol.confusion && r.abs() <= tol.confusion;
+    (met && windows.hold(a, b, x)).then_some(x) // changed: the window test
+}
+
+/// The bounds `(lo, hi)` of parameter `k` of `x = [u1, v1, u2, v2]`, or
+/// `None` where it is periodic.
+fn param_bounds<A, B>(a: &A, b: &B, k: usize) -> Option<(f64, f64)>
+where
+    A: ParametricSurface,
+    B: ParametricSurface,
+{
+    let s: &dyn ParametricSurface = if k < 2 { a } else { b };
+    if k.is_multiple_of(2) {
+        s.u_period().is_none().then(|| s.u_bounds())
+    } else {
+        s.v_period().is_none().then(|| s.v_bounds())
+    }
+}
+
+/// Parameters `x` with each non-periodic one clamped into its bounds.
+fn within_bounds<A, B>(a: &A, b: &B, x: [f64; 4]) -> [f64; 4]
+where
+    A: ParametricSurface,
+    B: ParametricSurface,
+{
+    std::array::from_fn(|k| param_bounds(a, b, k).map_or(x[k], |(lo, hi)| x[k].clamp(lo, hi)))
+}
+
+/// The parameter that the straight move from `x` to `y` takes out of its
+/// bounds first, and that bound, or `None` when `y` is within them.
+pub(crate) fn leaving<A, B>(a: &A, b: &B, x: [f64; 4], y: [f64; 4]) -> Option<(usize, f64)>
+where
+    A: ParametricSurface,
+    B: ParametricSurface,
+{
+    let mut first: Option<(usize, f64, f64)> = None;
+    for k in 0..4 {
+        let Some((lo, hi)) = param_bounds(a, b, k) else {
+            continue;
+        };
+        let bound = if y[k] > hi {
+            hi
+        } else if y[k] < lo {
+            lo
+        } else {
+            continue;
+        };
+        let fraction = (bound - x[k]) / (y[k] - x[k]);
+        if first.is_none_or(|(_, _, f)| fraction < f) {
+            first = Some((k, bound, fraction));
+        }
+    }
+    first.map(|(k, bound, _)| (k, bound))
+}
+
+/// Newton's method for a point on both surfaces with parameter `pin` of
+/// `x = [u1, v1, u2, v2]` held at `value`, from `x`: solves `S1(u1, v1) =
+/// S2(u2, v2)` in the three others, which stay in their bounds. `None`
+/// when it does not converge to `confusion`.
+pub(crate) fn land<A, B>(
+    a: &A,
+    b: &B,
+    x: [f64; 4],
+    pin: usize,
+    value: f64,
+    tol: Tolerance,
+    windows: Windows, // changed: added
+) -> Option<[f64; 4]>
+where
+    A: ParametricSurface,
+    B: ParametricSurface,
+{
+    let free: [usize; 3] = std::array::from_fn(|i| if i < pin { i } else { i + 1 });
+    let residual = |x: [f64; 4]| a.eval_point(x[0], x[1]) - b.eval_point(x[2], x[3]);
+    let mut x = within_bounds(a, b, x);
+    x[pin] = value;
+    let mut f = residual(x);
+    for _ in 0..32 {
+        if f.magnitude() <= 0.1 * tol.confusion && windows.hold(a, b, x)
+        // changed: the window test
+        {
+            return Some(x);
+        }
+        let (_, [au, av]) = a.eval_d1(x[0], x[1]);
+        let (_, [bu, bv]) = b.eval_d1(x[2], x[3]);
+        let cols = [au, av, -bu, -bv].map(|c| [c.x, c.y, c.z]);
+        let m = std::array::from_fn(|r| free.map(|k| cols[k][r]));
+        let delta = solve_3x3(m, [-f.x, -f.y, -f.z], 1e-12)?;
+        let mut scale = 1.0;
+        let mut improved = false;
+        for _ in 0..12 {
+            let mut trial = x;
+            for (i, &k) in free.iter().enumerate() {
+                trial[k] += scale * delta[i];
+            }
+            let trial = within_bounds(a, b, trial);
+            let tf = residual(trial);
+            if tf.square_magnitude() < f.square_magnitude() {
+                (x, f) = (trial, tf);
+                improved = true;
+                break;
+            }
+            scale *= 0.5;
+        }
+        if !improved {
+            break;
+        }
+    }
+    (f.magnitude() <= tol.confusion && windows.hold(a, b, x)).then_some(x) // changed: the window test
+}
