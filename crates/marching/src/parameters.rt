@@ -5,7 +5,7 @@ use patch::Window;
 ghost use mathlib.Core.Path.{_≡_};
 ghost use Rattle.marching.specs.Parameters.{parameterOf, withParameter};
 
-pub fn parameter(x: Parameters, k: usize) -> f64
+pub(crate) fn parameter(x: Parameters, k: usize) -> f64
     ensures { λ r. ⌜ r ≡ parameterOf x k ⌝ }
 {
     if k == 0 {
@@ -20,7 +20,7 @@ pub fn parameter(x: Parameters, k: usize) -> f64
     x.v2
 }
 
-pub fn with_parameter(x: Parameters, k: usize, value: f64) -> Parameters
+pub(crate) fn with_parameter(x: Parameters, k: usize, value: f64) -> Parameters
     ensures { λ r. ⌜ r ≡ withParameter x k value ⌝ }
 {
     if k == 0 {

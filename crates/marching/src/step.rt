@@ -52,7 +52,7 @@ fn offset(target: Target, p: Point3D) -> f64
     }
 }
 
-pub fn residual_at(a: Patch, b: Patch, target: Target, x: Parameters) -> Residual
+pub(crate) fn residual_at(a: Patch, b: Patch, target: Target, x: Parameters) -> Residual
     ensures { λ r. ⌜ r ≡ residualOf a b target x ⌝ }
 {
     let sa = a.surface;
@@ -214,7 +214,7 @@ fn pin_step(c: Columns, pin: usize, f: Vector3D) -> Step
     }
 }
 
-pub fn newton_step(a: Patch, b: Patch, target: Target, s: Residual) -> Step
+pub(crate) fn newton_step(a: Patch, b: Patch, target: Target, s: Residual) -> Step
     ensures { λ r. ⌜ r ≡ newtonStep a b target s ⌝ }
 {
     let x = s.x;
@@ -228,7 +228,7 @@ pub fn newton_step(a: Patch, b: Patch, target: Target, s: Residual) -> Step
 }
 
 // x + scale * d, a pinned parameter left as it is.
-pub fn shifted(target: Target, x: Parameters, d: Parameters, scale: f64) -> Parameters
+pub(crate) fn shifted(target: Target, x: Parameters, d: Parameters, scale: f64) -> Parameters
     ensures { λ r. ⌜ r ≡ shiftedOf target x d scale ⌝ }
 {
     let y = Parameters {
