@@ -9,7 +9,8 @@ use lib.Ieee.{Float}
 use lib.Ieee.Scale.{finite}
 use Rattle.loops.specs.Loop.{pick}
 use Rattle.number.specs.Operators.{bits, _≤?_}
-use Rattle.groups.specs.Groups.{width, numberAt, groupAt}
+use Rattle.groups.specs.Groups.{width}
+use Rattle.groups.specs.Row.{rowAt}
 use Rattle.geometry.specs.declared.point.Point3D.{Point3D}
 use Rattle.geometry.specs.declared.tolerance.Tolerance.{Tolerance}
 use Rattle.geometry.specs.Point.{distanceOf}
@@ -20,12 +21,12 @@ use Rattle.patch.specs.declared.patch.Parameters.{Parameters}
 use Rattle.patch.specs.declared.patch.Fitness.the-variants.{Fit}
 use Rattle.patch.specs.Patch.{fitnessOf, insideOf}
 
--- "seven numbers a point first: x, y, z, then u, v on A and u, v on B"
+-- the coordinates of point i, and the parameters beside them
 abbrev pub pointAt : List Float → ℕ → Point3D
-pointAt l i = record { x = numberAt width l i 0; y = numberAt width l i 1; z = numberAt width l i 2 }
+pointAt l i = record { x = rowAt l i .x; y = rowAt l i .y; z = rowAt l i .z }
 
 abbrev pub parametersAt : List Float → ℕ → Parameters
-parametersAt l i = record { u1 = numberAt width l i 3; v1 = numberAt width l i 4; u2 = numberAt width l i 5; v2 = numberAt width l i 6 }
+parametersAt l i = record { u1 = rowAt l i .u1; v1 = rowAt l i .v1; u2 = rowAt l i .u2; v2 = rowAt l i .v2 }
 
 -- "A's and B's points, both worked out afresh at its parameters"
 abbrev pub freshA : Patch → Parameters → Point3D
@@ -56,9 +57,9 @@ pub record PointPasses (a b : Patch) (tol : Tolerance) (l : List Float) (i : ℕ
 pub data ClosedAs (l : List Float) (count start closing : ℕ) : Type 0 where
   claimed-open : closing ≡ 0 → ClosedAs l count start closing
   -- "code 1, start index 0 and the last seven numbers equal the first seven in bits"
-  forward : closing ≡ 1 → start ≡ 0 → groupAt width l (count - 1) ≡ groupAt width l 0 → ClosedAs l count start closing
+  forward : closing ≡ 1 → start ≡ 0 → rowAt l (count - 1) ≡ rowAt l 0 → ClosedAs l count start closing
   -- "code 2, start index at least 2 and the first seven equal the start's in bits"
-  backward : closing ≡ 2 → 2 ≤ start → groupAt width l 0 ≡ groupAt width l start → ClosedAs l count start closing
+  backward : closing ≡ 2 → 2 ≤ start → rowAt l 0 ≡ rowAt l start → ClosedAs l count start closing
 
 -- the trace of `count` points at the head of the list l passes
 pub record Passes (a b : Patch) (tol : Tolerance) (l : List Float) (count start closing : ℕ) : Type 0 where
