@@ -2,3 +2,4 @@ pub mod Turns
 pub mod Bits
 pub mod Passed
 pub mod Exact
+pub mod Evaluated
