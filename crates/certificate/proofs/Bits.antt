@@ -1,15 +1,15 @@
 -- Equal in bits is equal as values of the logic, for numbers of binary64; a point worked out afresh is made of such. Assumes nothing.
-use mathlib.Core.Path.{_≡_, refl, sym, ap, _∙_, subst}
-use mathlib.Core.Bool.{Bool, true, _&&_}
+use mathlib.Core.Path.{_≡_, sym, ap, _∙_, subst}
+use mathlib.Core.Bool.{Bool, _&&_}
 use mathlib.Core.List.{List}
 use Prim.Native.Nat.{ℕ}
 use lib.Dec.{T}
 use lib.ListN.{getD}
-use lib.Ieee.{Float, nan, binary64, fits, toBits, ofBits}
-use lib.Ieee.Bits.{ofBits-toBits, is-true}
+use lib.Ieee.{Float, nan, binary64, fits}
+use lib.Ieee.Bits.{is-true}
 use lib.Ieee.Fits.{add-fits, and-l, and-r, and-i}
-use borrow.Author.Tests.{eqb-true, eq-eqb}
 use Rattle.number.specs.Helpers.{sameBits}
+use Rattle.number.proofs.Sign.{same-bits→eq, eq→same-bits}
 use Rattle.groups.specs.declared.row.Row.{Row}
 use Rattle.groups.specs.Row.{rowAt}
 use Rattle.geometry.specs.declared.point.Point3D.{Point3D}
@@ -29,18 +29,13 @@ use Rattle.certificate.specs.Check.{samePoint, sameRow}
 abbrev pub Binary64 : List Float → Type 0
 Binary64 l = (k : ℕ) → T (fits binary64 (getD l k nan))
 
--- ---- one number
+-- ---- one number, as the tests say it
 
-abbrev held : Float → Type 0
-held x = T (fits binary64 x)
+same-equal : (x y : Float) → T (fits binary64 x) → T (fits binary64 y) → T (sameBits x y) → x ≡ y
+same-equal x y fx fy s = same-bits→eq x y fx fy (is-true (sameBits x y) s)
 
-pub same-equal : (x y : Float) → T (fits binary64 x) → T (fits binary64 y) → T (sameBits x y) → x ≡ y
-unfolding sameBits
-same-equal x y fx fy s = sym (ofBits-toBits binary64 x fx) ∙ ap (ofBits binary64) (eqb-true _ _ (is-true _ s)) ∙ ofBits-toBits binary64 y fy
-
-pub equal-same : (x y : Float) → x ≡ y → T (sameBits x y)
-unfolding sameBits
-equal-same x y e = subst T (sym (eq-eqb _ _ (ap (toBits binary64) e))) tt
+equal-same : (x y : Float) → x ≡ y → T (sameBits x y)
+equal-same x y e = subst T (sym (eq→same-bits x y e)) tt
 
 -- ---- the numbers of a point
 

@@ -11,7 +11,7 @@ use lib.Ieee.Bits.{is-true}
 use lib.Ieee.Fits.{and-l, and-r, and-i}
 use lib.Ieee.Scale.{finite}
 use borrow.Author.Tests.{ltb-true, ltb-false, lt-ltb, le-ltb, le-leb, eqb-true, eqb-false, eq-eqb, ne-eqb}
-use Rattle.loops.specs.Loop.{pick, Flow, on, out, searched}
+use Rattle.loops.specs.Loop.{pick, Flow, on, searched}
 use Rattle.loops.proofs.Loop.{searched-out, searched-end, searched-step}
 use Rattle.number.specs.Operators.{_≤?_}
 use Rattle.groups.specs.Groups.{width, holdsOf}
@@ -21,7 +21,6 @@ use Rattle.groups.proofs.Groups.{holds-length}
 use Rattle.groups.proofs.Rows.{row-there}
 use Rattle.refusal.specs.declared.Refusal.{Refusal}
 use Rattle.refusal.specs.declared.Refusal.the-variants as refusal
-use Rattle.geometry.specs.declared.point.Point3D.{Point3D}
 use Rattle.geometry.specs.declared.tolerance.Tolerance.{Tolerance}
 use Rattle.geometry.specs.Point.{distanceOf}
 use Rattle.geometry.specs.Tolerance.{toleranceFit}
