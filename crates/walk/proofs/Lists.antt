@@ -1,0 +1,59 @@
+-- Lists under the stores of a loop. Assumes nothing.
+use mathlib.Core.Path.{_≡_, refl, ap, sym, subst, _∙_}
+use mathlib.Core.List.{List, [], _∷_, _++_, append-nil}
+use Prim.Native.Nat.{ℕ, zero, suc, _+_, _-_, _*_, _≤_, _<_}
+use native.Mathlib.Omega.{arith}
+use lib.ListN.{length, take, drop, set, replicate, length-append, length-drop, length-replicate, getD-replicate}
+use lib.Seq.{take-at, length-take-le, paste, paste-zero, paste-suc, take-length, drop-length}
+
+module _ {A : Type 0} where
+  -- a list with `vs` from index `at` on
+  abbrev pub over : List A → ℕ → List A → List A
+  over l at vs = take at l ++ vs ++ drop (at + length vs) l
+
+  length-over-head : (l : List A) (at : ℕ) (vs : List A) → at + length vs ≤ length l → length (take at l ++ vs) ≡ at + length vs
+  length-over-head l at vs h =
+      let e : length (take at l) ≡ at = length-take-le at l (omega arith) in
+      length-append (take at l) vs ∙ ap (λ (k : ℕ). k + length vs) e
+
+  pub take-over : (l : List A) (at : ℕ) (vs : List A) → at + length vs ≤ length l → take (at + length vs) (over l at vs) ≡ take at l ++ vs
+  take-over l at vs h = take-at (take at l ++ vs) (drop (at + length vs) l) (at + length vs) (length-over-head l at vs h)
+
+  pub length-over : (l : List A) (at : ℕ) (vs : List A) → at + length vs ≤ length l → length (over l at vs) ≡ length l
+  length-over l at vs h =
+      length-append (take at l ++ vs) (drop (at + length vs) l)
+      ∙ (let e = length-over-head l at vs h in let f = length-drop (at + length vs) l in omega arith)
+
+  -- a fill to the end, in place: after the stores below i
+  abbrev pub filled : List A → ℕ → A → ℕ → List A
+  filled b from z i = paste b from (replicate (length b - from) z) (i - from)
+
+  pub filled-start : (b : List A) (from : ℕ) (z : A) → b ≡ filled b from z from
+  filled-start b from z =
+      paste-zero b from (replicate (length b - from) z)
+      ∙ ap (paste b from (replicate (length b - from) z)) (let e : 0 ≡ from - from = omega arith in e)
+
+  pub filled-again : (b : List A) (from : ℕ) (z : A) (i : ℕ) {s : List A} → from ≤ i → i < length b → s ≡ filled b from z i
+    → set s i z ≡ filled b from z (i + 1)
+  filled-again b from z i h l e =
+      let k = i - from in
+      let n = length b - from in
+      let ik : from + k ≡ i = omega arith in
+      let lr = length-replicate n z in
+      rw e
+      (subst (λ (j : ℕ). set (filled b from z i) j z ≡ filled b from z (i + 1)) ik
+      (ap (set (filled b from z i) (from + k)) (sym (getD-replicate n k z z (omega arith)))
+      ∙ paste-suc b from (replicate n z) k z (omega arith) (omega arith)
+      ∙ ap (paste b from (replicate n z)) (let e : suc k ≡ i + 1 - from = omega arith in e)))
+
+  pub filled-done : (b : List A) (from : ℕ) (z : A) (i : ℕ) {s : List A} → from ≤ length b → i ≡ length b → s ≡ filled b from z i
+    → s ≡ take from b ++ replicate (length b - from) z
+  filled-done b from z i h l e =
+      let n = length b - from in
+      let lr = length-replicate n z in
+      e
+      ∙ ap (paste b from (replicate n z)) (let e : i - from ≡ length (replicate n z) = omega arith in e)
+      ∙ ap (λ (r : List A). take from b ++ r ++ drop (from + length (replicate n z)) b) (take-length (replicate n z))
+      ∙ ap (λ (k : ℕ). take from b ++ replicate n z ++ drop k b) (let e : from + length (replicate n z) ≡ length b = omega arith in e)
+      ∙ ap (λ (r : List A). take from b ++ replicate n z ++ r) (drop-length b)
+      ∙ append-nil (take from b ++ replicate n z)

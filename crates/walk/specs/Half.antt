@@ -1,0 +1,66 @@
+-- One half of the walk. Definitions only.
+use mathlib.Core.Bool.{Bool, true, false}
+use mathlib.Core.List.{List, [], _∷_, reverse}
+use Prim.Native.Nat.{ℕ}
+use lib.Ieee.{Float}
+use lib.ListN.{length}
+use Rattle.loops.specs.Loop.{pick, Flow, on, out, searched}
+use Rattle.number.specs.Operators.{bits}
+use Rattle.geometry.specs.declared.point.Point3D.{Point3D}
+use Rattle.geometry.specs.declared.vector.Vector3D.{Vector3D}
+use Rattle.geometry.specs.declared.tolerance.Tolerance.{Tolerance}
+use Rattle.geometry.specs.Vector.{scaleOf}
+use Rattle.patch.specs.declared.patch.Patch.{Patch}
+use Rattle.patch.specs.declared.patch.Parameters.{Parameters}
+use Rattle.marching.specs.Step.{pointA}
+use Rattle.stride.specs.declared.attempt.Walker.{Walker}
+use Rattle.walk.specs.Closing.{firstStride}
+use Rattle.walk.specs.Step.{stepOf}
+use Rattle.walk.specs.declared.step.Stepped.{Stepped}
+use Rattle.walk.specs.declared.step.Stepped.the-variants.{Onward, Closed, Edge, Ended}
+
+-- a half: the parameters of its points, the last one first, and whether it ended on the start
+pub record Walked : Type 0 where
+  pub points : List Parameters
+  pub closed : Bool
+
+-- where a half stands: the walker, the stride to try next, and the points so far, the last one first
+pub record Halfway : Type 0 where
+  pub w : Walker
+  pub h : Float
+  pub points : List Parameters
+
+-- let (mut x, mut p, mut t) = (seed, start, t0 * dir); last_curvature = 0.0
+unfoldable pub firstWalker : Parameters → Point3D → Vector3D → Float → Walker
+firstWalker x p t dir = record { x = x; p = p; t = scaleOf t dir; curvature = bits 0 }
+
+-- the points without the last one
+abbrev pub withoutLast : List Parameters → List Parameters
+withoutLast [] = []
+withoutLast (x ∷ xs) = xs
+
+-- what a step says. "If the last point lies nearer the start than 0.1 of the stride it is removed first"; the closing point is the start,
+-- with its own parameters x.
+abbrev pub afterStep : Parameters → List Parameters → Stepped → Flow Halfway Walked
+afterStep x points (Onward w h) = on (record { w = w; h = h; points = w .x ∷ points })
+afterStep x points (Closed removed) = out (record { points = x ∷ pick removed (withoutLast points) points; closed = true })
+afterStep x points (Edge y q) = out (record { points = y ∷ points; closed = false })
+afterStep x points Ended = out (record { points = points; closed = false })
+
+abbrev pub halfStep : Patch → Patch → Tolerance → Float → Parameters → ℕ → Halfway → Flow Halfway Walked
+halfStep a b tol dir x i s = afterStep x (s .points) (stepOf a b tol dir (pointA a x) (length (s .points)) (s .w) (s .h))
+
+-- the steps are spent
+abbrev pub halfSpent : Halfway → Walked
+halfSpent s = record { points = s .points; closed = false }
+
+abbrev pub halfFrom : Patch → Patch → Tolerance → Float → Parameters → ℕ → ℕ → Halfway → Walked
+halfFrom a b tol dir x n i s = searched (halfStep a b tol dir x) halfSpent i n (on s)
+
+-- at most n steps from the start with parameters x and tangent t; dir is 1 forward and -1 backward
+unfoldable pub halfOf : Patch → Patch → Tolerance → Float → Parameters → Vector3D → ℕ → Walked
+halfOf a b tol dir x t n = halfFrom a b tol dir x n 0 (record { w = firstWalker x (pointA a x) t dir; h = firstStride (tol .confusion); points = [] })
+
+-- the points in the order walked
+abbrev pub inOrder : Walked → List Parameters
+inOrder half = reverse (half .points)

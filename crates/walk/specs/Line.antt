@@ -1,0 +1,41 @@
+-- Both halves, and the call. Definitions only.
+use mathlib.Core.Bool.{Bool, _&&_}
+use mathlib.Core.List.{List, [], _∷_, _++_}
+use Prim.Native.Nat.{ℕ, _+_, _*_, _-_}
+use lib.Ieee.{Float}
+use lib.ListN.{length, take, drop}
+use Rattle.loops.specs.Loop.{pick}
+use Rattle.number.specs.Operators.{bits}
+use Rattle.groups.specs.Groups.{width}
+use Rattle.geometry.specs.declared.vector.Vector3D.{Vector3D}
+use Rattle.geometry.specs.declared.tolerance.Tolerance.{Tolerance}
+use Rattle.patch.specs.declared.patch.Patch.{Patch}
+use Rattle.patch.specs.declared.patch.Parameters.{Parameters}
+use Rattle.walk.specs.Half.{Walked, halfOf, inOrder}
+
+-- a line: the parameters of its points, the start's index and the closing code
+pub record Line : Type 0 where
+  pub points : List Parameters
+  pub start : ℕ
+  pub closing : ℕ
+
+-- 1 forward, -1 backward
+abbrev pub ahead : Float
+ahead = bits 0x3FF0_0000_0000_0000
+
+abbrev pub back : Float
+back = bits 0xBFF0_0000_0000_0000
+
+-- "0 open, 1 closed forward, 2 closed backward": a half closed forward is the whole line
+abbrev pub roundLine : Parameters → Walked → Line
+roundLine x f = record { points = x ∷ inOrder f; start = 0; closing = 1 }
+
+-- the backward half last point first, the start, the forward half
+abbrev pub bothHalves : Parameters → Walked → Walked → Line
+bothHalves x f b = record { points = b .points ++ (x ∷ inOrder f); start = length (b .points); closing = pick (b .closed) 2 0 }
+
+-- "runs forward, then backward unless closed"
+unfoldable pub lineOf : Patch → Patch → Tolerance → Parameters → Vector3D → ℕ → Line
+lineOf a b tol x t n =
+    pick (halfOf a b tol ahead x t n .closed) (roundLine x (halfOf a b tol ahead x t n))
+    (bothHalves x (halfOf a b tol ahead x t n) (halfOf a b tol back x t n))

@@ -1,0 +1,127 @@
+-- The call: its refusals, its answer and the lent buffer after it. Definitions only.
+use mathlib.Core.Bool.{Bool, _&&_}
+use mathlib.Core.List.{List, [], _∷_, _++_}
+use Prim.Native.Nat.{ℕ, _+_, _*_, _-_}
+use lib.Dec.{leb, ltb}
+use lib.Ieee.{Float}
+use lib.Ieee.Scale.{finite}
+use lib.ListN.{length, take, drop, replicate}
+use Rattle.loops.specs.Loop.{pick}
+use Rattle.groups.specs.Groups.{width, holdsOf}
+use Rattle.groups.specs.Row.{zero}
+use Rattle.refusal.specs.declared.Refusal.{Refusal}
+use Rattle.refusal.specs.declared.Refusal.the-variants as refusal
+use Rattle.refusal.specs.Refusal.{numberOf}
+use Rattle.geometry.specs.declared.tolerance.Tolerance.{Tolerance}
+use Rattle.geometry.specs.Tolerance.{toleranceFit}
+use Rattle.patch.specs.declared.patch.Patch.{Patch}
+use Rattle.patch.specs.declared.patch.Parameters.{Parameters}
+use Rattle.patch.specs.declared.patch.Fitness.{Fitness}
+use Rattle.patch.specs.declared.patch.Fitness.the-variants.{Fit, Unfit}
+use Rattle.patch.specs.Patch.{fitnessOf}
+use Rattle.marching.specs.declared.newton.Met.{Met}
+use Rattle.marching.specs.declared.newton.Met.the-variants as met
+use Rattle.marching.specs.declared.tangent.Direction.{Direction}
+use Rattle.marching.specs.declared.tangent.Direction.the-variants as direction
+use Rattle.marching.specs.Tangent.{tangentOf}
+use Rattle.marching.specs.Newton.{meetOf}
+use Rattle.walk.specs.Lent.{rowsOf}
+use Rattle.walk.specs.Line.{lineOf}
+use Rattle.walk.specs.Line as line
+use Rattle.walk.specs.declared.answer.Traced.{Traced}
+use Rattle.walk.specs.declared.answer.Traced.the-variants.{Line, Refused}
+
+-- an answer and what the buffer holds with it
+pub record Outcome : Type 0 where
+  pub answer : Traced
+  pub buffer : List Float
+
+-- "the answer holds the count, the start's index and the closing code"; a refusal is its number, 0 where there is none
+abbrev pub refusalOf : Traced → ℕ
+refusalOf (Line count start closing) = 0
+refusalOf (Refused r) = numberOf r
+
+abbrev pub countOf : Traced → ℕ
+countOf (Line count start closing) = count
+countOf (Refused r) = 0
+
+abbrev pub startOf : Traced → ℕ
+startOf (Line count start closing) = start
+startOf (Refused r) = 0
+
+abbrev pub closingOf : Traced → ℕ
+closingOf (Line count start closing) = closing
+closingOf (Refused r) = 0
+
+-- ---- refusals before 9
+
+-- 6: "a guess or parameter that is not finite"
+unfoldable pub guessFinite : Parameters → Bool
+guessFinite x = finite (x .u1) && (finite (x .v1) && (finite (x .u2) && finite (x .v2)))
+
+-- 5, 6, then 7: "step cap n outside 2 to 2000", then 8: "fewer than 7(2n+1) numbers lent"
+unfoldable pub limitsOf : Tolerance → Parameters → ℕ → List Float → Fitness
+limitsOf tol guess n l =
+    pick (toleranceFit tol)
+    (pick (guessFinite guess)
+    (pick (leb 2 n)
+    (pick (leb n 2000)
+    (pick (holdsOf width l (2 * n + 1)) Fit (Unfit refusal.Lent))
+    (Unfit refusal.StepCap))
+    (Unfit refusal.StepCap))
+    (Unfit refusal.Parameter))
+    (Unfit refusal.Tolerance)
+
+-- "Trace: 1 to 4 for A, the same for B, then 5 to 11"
+abbrev pub afterPatch : Fitness → Fitness → Fitness
+afterPatch Fit next = next
+afterPatch (Unfit r) next = Unfit r
+
+unfoldable pub callFitness : Patch → Patch → Tolerance → Parameters → ℕ → List Float → Fitness
+callFitness a b tol guess n l = afterPatch (fitnessOf a) (afterPatch (fitnessOf b) (limitsOf tol guess n l))
+
+-- ---- the walk, in the first 7(2n+1) numbers
+
+abbrev pub room : ℕ → ℕ
+room n = width * (2 * n + 1)
+
+-- "Refusals 9, 10 and 11 leave its first 7(2n+1) numbers positive zero."
+abbrev pub refusedWalk : Refusal → ℕ → Outcome
+refusedWalk r n = record { answer = Refused r; buffer = replicate (room n) zero }
+
+-- what the last part of the walk makes of a list that begins with the line's points
+unfoldable pub finishedOf : ℕ → ℕ → ℕ → List Float → Outcome
+finishedOf count start closing l =
+    pick (ltb count 4) (record { answer = Refused refusal.TooShort; buffer = replicate (length l) zero })
+    (record { answer = Line count start closing; buffer = take (width * count) l ++ replicate (length l - width * count) zero })
+
+-- 11: "fewer than 4 points"; "Success puts seven numbers a point first; zeros follow up to 7(2n+1)"
+unfoldable pub settled : Patch → ℕ → line.Line → Outcome
+settled a n found =
+    pick (leb 4 (length (found .points)))
+    (record {
+      answer = Line (length (found .points)) (found .start) (found .closing);
+      buffer = rowsOf a (found .points) ++ replicate (room n - width * length (found .points)) zero })
+    (refusedWalk refusal.TooShort n)
+
+-- 10: "no direction at the meeting"
+abbrev pub afterDirection : Patch → Patch → Tolerance → ℕ → Parameters → Direction → Outcome
+afterDirection a b tol n x (direction.Along t) = settled a n (lineOf a b tol x t n)
+afterDirection a b tol n x direction.Missing = refusedWalk refusal.NoDirection n
+
+-- 9: "the guess leads to no meeting"; "a caller goes on only with it, else 9"
+abbrev pub afterSeed : Patch → Patch → Tolerance → ℕ → Met → Outcome
+afterSeed a b tol n (met.At x) = afterDirection a b tol n x (tangentOf a b x tol)
+afterSeed a b tol n met.Nothing = refusedWalk refusal.NoMeeting n
+
+unfoldable pub walkedOf : Patch → Patch → Tolerance → Parameters → ℕ → Outcome
+walkedOf a b tol guess n = afterSeed a b tol n (meetOf a b guess tol)
+
+-- ---- the call: "refusals before 9 touch nothing"; "beyond that nothing changes"
+
+abbrev pub afterCall : Patch → Patch → Tolerance → Parameters → ℕ → List Float → Fitness → Outcome
+afterCall a b tol guess n l (Unfit r) = record { answer = Refused r; buffer = l }
+afterCall a b tol guess n l Fit = record { answer = walkedOf a b tol guess n .answer; buffer = walkedOf a b tol guess n .buffer ++ drop (room n) l }
+
+unfoldable pub traceOf : Patch → Patch → Tolerance → Parameters → ℕ → List Float → Outcome
+traceOf a b tol guess n l = afterCall a b tol guess n l (callFitness a b tol guess n l)

@@ -1,0 +1,97 @@
+// One half of the walk.
+use crate::closing::first_stride;
+use crate::lent::put;
+use crate::lent::row_for;
+use crate::step::Stepped;
+use crate::step::step;
+use geometry::Point3D;
+use geometry::Tolerance;
+use geometry::Vector3D;
+use patch::Parameters;
+use patch::Patch;
+use stride::Walker;
+ghost use mathlib.Core.Path.{_≡_};
+ghost use mathlib.Core.List.{List};
+ghost use Prim.Native.Nat.{_*_, _≤_};
+ghost use lib.ListN.{length, take};
+ghost use Rattle.groups.specs.Groups.{width};
+ghost use Rattle.marching.specs.Step.{pointA};
+ghost use Rattle.walk.specs.Lent.{rowsOf};
+ghost use Rattle.walk.specs.Half.{firstWalker, halfOf, inOrder};
+
+// How many points a half holds, and whether it ended on the start.
+pub struct Reached {
+    pub count: usize,
+    pub closed: bool,
+}
+
+// Where a half begins: at the start, in the tangent's direction or against it.
+fn first_walker(x: Parameters, p: Point3D, t: Vector3D, dir: f64) -> Walker
+    ensures { λ r. ⌜ r ≡ firstWalker x p t dir ⌝ }
+{
+    Walker {
+        x,
+        p,
+        t: t.scale(dir),
+        curvature: 0.0,
+    }
+}
+
+// The points of a half from the front of `out` on, in the order walked: at most n steps from the start, whose parameters are x, whose
+// point of A is p and whose tangent is t.
+pub(crate) fn half(
+    out: &mut [f64],
+    a: Patch,
+    b: Patch,
+    tol: Tolerance,
+    dir: f64,
+    x: Parameters,
+    p: Point3D,
+    t: Vector3D,
+    n: usize,
+) -> Reached
+    requires { ⌜ (p ≡ pointA a x) × ((n ≤ 2000) × (width * n ≤ length (now out))) ⌝ }
+    ensures { λ r. ⌜ (r .count ≡ length (halfOf a b tol dir x t n .points)) × ((r .closed ≡ halfOf a b tol dir x t n .closed) × ((r .count ≤ n) × (take (width * r .count) (now (out .exit)) ≡ rowsOf a (inOrder (halfOf a b tol dir x t n))))) ⌝ }
+{
+    let mut w = first_walker(x, p, t, dir);
+    let mut h = first_stride(tol.confusion);
+    let mut count: usize = 0;
+    for _ in 0..n {
+        let stepped = step(a, b, tol, dir, p, count, w, h);
+        match stepped {
+            Stepped::Onward(next, length) => {
+                put(&mut *out, groups::WIDTH * count, row_for(next.p, next.x));
+                count = count + 1;
+                w = next;
+                h = length;
+            }
+            Stepped::Closed(removed) => {
+                if removed {
+                    count = count - 1;
+                }
+                put(&mut *out, groups::WIDTH * count, row_for(p, x));
+                return Reached {
+                    count: count + 1,
+                    closed: true,
+                };
+            }
+            Stepped::Edge(y, q) => {
+                put(&mut *out, groups::WIDTH * count, row_for(q, y));
+                return Reached {
+                    count: count + 1,
+                    closed: false,
+                };
+            }
+            Stepped::Ended => {
+                return Reached {
+                    count,
+                    closed: false,
+                };
+            }
+        }
+    }
+    Reached {
+        count,
+        closed: false,
+    }
+}
