@@ -12,8 +12,9 @@ use patch::Patch;
 use stride::Walker;
 ghost use mathlib.Core.Path.{_≡_};
 ghost use mathlib.Core.List.{List};
-ghost use Prim.Native.Nat.{_*_, _≤_};
+ghost use Prim.Native.Nat.{_*_, _-_, _≤_};
 ghost use lib.ListN.{length, take};
+ghost use Rattle.loops.specs.Loop.{pick};
 ghost use Rattle.groups.specs.Groups.{width};
 ghost use Rattle.marching.specs.Step.{pointA};
 ghost use Rattle.walk.specs.Lent.{rowsOf};
@@ -35,6 +36,14 @@ fn first_walker(x: Parameters, p: Point3D, t: Vector3D, dir: f64) -> Walker
         t: t.scale(dir),
         curvature: 0.0,
     }
+}
+
+// How many points are left before a half closes: the last one may be removed.
+fn left_of(count: usize, removed: bool) -> usize
+    requires { ⌜ 3 ≤ count ⌝ }
+    ensures { λ r. ⌜ r ≡ pick removed (count - 1) count ⌝ }
+{
+    if removed { count - 1 } else { count }
 }
 
 // The points of a half from the front of `out` on, in the order walked: at most n steps from the start, whose parameters are x, whose
@@ -66,12 +75,10 @@ pub(crate) fn half(
                 h = length;
             }
             Stepped::Closed(removed) => {
-                if removed {
-                    count = count - 1;
-                }
-                put(&mut *out, groups::WIDTH * count, row_for(p, x));
+                let left = left_of(count, removed);
+                put(&mut *out, groups::WIDTH * left, row_for(p, x));
                 return Reached {
-                    count: count + 1,
+                    count: left + 1,
                     closed: true,
                 };
             }

@@ -1,0 +1,221 @@
+-- `walk::half::half` meets its contract. The invariant is `Going`: the buffer holds the points so far, in the order walked. Assumes nothing.
+use mathlib.Core.Path.{_≡_, refl, ap, _∙_}
+use Prim.Native.Nat.{_-_, _*_}
+use native.Mathlib.Omega.{arith}
+use borrow.Author.Needs.{needs}
+use denote.Ref.{now}
+use Rattle.groups.specs.declared.row.Row.{Row}
+use Rattle.walk.specs.Lent.{placed}
+use Rattle.walk.specs.Half.{halfOf}
+use Rattle.walk.proofs.Halves.{Going, fits, fits-left, few-left, few-held, whole-is, going-start, going-on, going-closed, going-edge, going-ended, going-spent, held}
+use Rattle.walk.proofs.half.half.Statement.{statement}
+use Rattle.walk.proofs.half.half.Tie as tie
+
+abbrev Inv-loop : tie.InvT-loop
+Inv-loop out₀ a b tol dir x p n w₀ h₀ count₀ counter₀ out w h count counter = Going a b tol dir x p n w₀ h₀ out₀ out w h count counter
+
+abbrev μ-loop : tie.MeasureT-loop
+μ-loop out₀ a b tol dir x p n w₀ h₀ count₀ counter₀ out w h count counter = n - counter
+
+first-walker-requires : tie.Need-first-walker-requires Inv-loop μ-loop
+first-walker-requires c κs = search needs
+
+first-stride-requires : tie.Need-first-stride-requires Inv-loop μ-loop
+first-stride-requires c κs = search needs
+
+loop-holds : tie.Need-loop-holds Inv-loop μ-loop
+loop-holds c =
+    let g = c .before .before .before .args in
+    going-start (g .a) (g .b) (g .tol) (g .dir) (g .x) (g .p) (g .n) (c .before .first-walker .result) (c .first-stride .result) (now (g .out))
+
+step-requires : tie.Need-step-requires Inv-loop μ-loop
+step-requires c κs = search needs
+
+enum-known-stepped : tie.Need-enum-known-stepped Inv-loop μ-loop
+enum-known-stepped c = search needs
+
+mul-put : tie.Need-mul-put Inv-loop μ-loop
+mul-put c = search needs
+
+row-for-requires : tie.Need-row-for-requires Inv-loop μ-loop
+row-for-requires c κs = search needs
+
+put-requires : tie.Need-put-requires Inv-loop μ-loop
+put-requires c κs =
+    let q = c .before .before .before .before .before .before .before in
+    let st = q .before .before .before .before in
+    let g = st .args in
+    let v = q .loop .inv in
+    fits (g .a) (g .b) (g .tol) (g .dir) (g .x) (g .p) (g .n) (q .before .before .first-walker .result) (q .before .first-stride .result) (st .pre .0) (now (g .out)) (q .loop .out) (q .loop .w) (q .loop .h) (q .loop .count) (q .loop .counter) v (st .pre .1 .1) _ refl (omega (arith, c .before .before .before .before .before .before .loop-test .taken)) (c .before .before .before .before .before .step .ensures)
+
+add-count : tie.Need-add-count Inv-loop μ-loop
+add-count c = search needs
+
+enum-known-stepped-2 : tie.Need-enum-known-stepped-2 Inv-loop μ-loop
+enum-known-stepped-2 c = search needs
+
+left-of-requires : tie.Need-left-of-requires Inv-loop μ-loop
+left-of-requires c κs =
+    let q = c .before .before .before .before .before in
+    let st = q .before .before .before .before in
+    let g = st .args in
+    let v = q .loop .inv in
+    held (g .a) (g .b) (g .tol) (g .dir) (g .x) (g .p) (g .n) (q .before .before .first-walker .result) (q .before .first-stride .result) (st .pre .0) (now (g .out)) (q .loop .out) (q .loop .w) (q .loop .h) (q .loop .count) (q .loop .counter) v (st .pre .1 .1) _ refl (omega (arith, c .before .before .before .before .loop-test .taken)) (c .before .before .before .step .ensures) _ (c .before .stepped2 .given .1)
+
+mul-put-2 : tie.Need-mul-put-2 Inv-loop μ-loop
+mul-put-2 c = search needs
+
+row-for-requires-2 : tie.Need-row-for-requires-2 Inv-loop μ-loop
+row-for-requires-2 c κs = search needs
+
+put-requires-2 : tie.Need-put-requires-2 Inv-loop μ-loop
+put-requires-2 c κs =
+    let q = c .before .before .before .before .before .before .before .before in
+    let st = q .before .before .before .before in
+    let g = st .args in
+    let v = q .loop .inv in
+    fits-left (g .a) (g .b) (g .tol) (g .dir) (g .x) (g .p) (g .n) (q .before .before .first-walker .result) (q .before .first-stride .result) (st .pre .0) (now (g .out)) (q .loop .out) (q .loop .w) (q .loop .h) (q .loop .count) (q .loop .counter) v (st .pre .1 .1) _ refl (omega (arith, c .before .before .before .before .before .before .before .loop-test .taken)) (c .before .before .before .before .before .before .step .ensures) _ (c .before .before .left-of .ensures)
+
+add-t30 : tie.Need-add-t30 Inv-loop μ-loop
+add-t30 c =
+    let q = c .before .before .before .before .before .before .before .before .before .before .before in
+    let st = q .before .before .before .before in
+    let g = st .args in
+    let v = q .loop .inv in
+    let f = few-left (g .a) (g .b) (g .tol) (g .dir) (g .x) (g .p) (g .n) (q .before .before .first-walker .result) (q .before .first-stride .result) (st .pre .0) (now (g .out)) (q .loop .out) (q .loop .w) (q .loop .h) (q .loop .count) (q .loop .counter) v (st .pre .1 .1) _ refl (omega (arith, c .before .before .before .before .before .before .before .before .before .before .loop-test .taken)) (c .before .before .before .before .before .before .before .before .before .step .ensures) _ (c .before .before .before .before .before .left-of .ensures) in
+    let k = st .pre .1 .0 in
+    search needs
+
+same-length : tie.Need-same-length Inv-loop μ-loop
+same-length c = search needs
+
+returns : tie.Need-returns Inv-loop μ-loop
+returns c =
+    let q = c .before .before .before .before .before .before .before .before .before .before .before in
+    let st = q .before .before .before .before in
+    let g = st .args in
+    let v = q .loop .inv in
+    going-closed (g .a) (g .b) (g .tol) (g .dir) (g .x) (g .p) (g .n) (q .before .before .first-walker .result) (q .before .first-stride .result) (st .pre .0) (now (g .out)) (q .loop .out) (q .loop .w) (q .loop .h) (q .loop .count) (q .loop .counter) v (st .pre .1 .1) (halfOf (g .a) (g .b) (g .tol) (g .dir) (g .x) (g .t) (g .n)) (whole-is (g .a) (g .b) (g .tol) (g .dir) (g .x) (g .p) (g .n) (q .before .before .first-walker .result) (q .before .first-stride .result) (g .t) (st .pre .0) (q .before .before .first-walker .ensures) (q .before .first-stride .ensures)) (omega (arith, c .before .before .before .before .before .before .before .before .before .before .loop-test .taken)) (c .before .before .before .before .before .before .before .before .before .step .ensures) _ (c .before .before .before .before .before .before .before .stepped2 .given .1) (c .before .before .before .before .before .left-of .ensures) (c .before .before .put2 .ensures ∙ ap (λ (r : Row). placed (q .loop .out) (7 * c .before .before .before .before .before .left-of .result) r) (c .before .before .before .row-for2 .ensures))
+
+enum-known-stepped-3 : tie.Need-enum-known-stepped-3 Inv-loop μ-loop
+enum-known-stepped-3 c = search needs
+
+mul-put-3 : tie.Need-mul-put-3 Inv-loop μ-loop
+mul-put-3 c = search needs
+
+row-for-requires-3 : tie.Need-row-for-requires-3 Inv-loop μ-loop
+row-for-requires-3 c κs = search needs
+
+put-requires-3 : tie.Need-put-requires-3 Inv-loop μ-loop
+put-requires-3 c κs =
+    let q = c .before .before .before .before .before .before .before in
+    let st = q .before .before .before .before in
+    let g = st .args in
+    let v = q .loop .inv in
+    fits (g .a) (g .b) (g .tol) (g .dir) (g .x) (g .p) (g .n) (q .before .before .first-walker .result) (q .before .first-stride .result) (st .pre .0) (now (g .out)) (q .loop .out) (q .loop .w) (q .loop .h) (q .loop .count) (q .loop .counter) v (st .pre .1 .1) _ refl (omega (arith, c .before .before .before .before .before .before .loop-test .taken)) (c .before .before .before .before .before .step .ensures)
+
+add-t35 : tie.Need-add-t35 Inv-loop μ-loop
+add-t35 c =
+    let q = c .before .before .before .before .before .before .before .before .before .before in
+    let st = q .before .before .before .before in
+    let g = st .args in
+    let v = q .loop .inv in
+    let f = few-held (g .a) (g .b) (g .tol) (g .dir) (g .x) (g .p) (g .n) (q .before .before .first-walker .result) (q .before .first-stride .result) (st .pre .0) (now (g .out)) (q .loop .out) (q .loop .w) (q .loop .h) (q .loop .count) (q .loop .counter) v (st .pre .1 .1) _ refl (omega (arith, c .before .before .before .before .before .before .before .before .before .loop-test .taken)) (c .before .before .before .before .before .before .before .before .step .ensures) in
+    let k = st .pre .1 .0 in
+    search needs
+
+same-length-2 : tie.Need-same-length-2 Inv-loop μ-loop
+same-length-2 c = search needs
+
+returns-2 : tie.Need-returns-2 Inv-loop μ-loop
+returns-2 c =
+    let q = c .before .before .before .before .before .before .before .before .before .before in
+    let st = q .before .before .before .before in
+    let g = st .args in
+    let v = q .loop .inv in
+    going-edge (g .a) (g .b) (g .tol) (g .dir) (g .x) (g .p) (g .n) (q .before .before .first-walker .result) (q .before .first-stride .result) (st .pre .0) (now (g .out)) (q .loop .out) (q .loop .w) (q .loop .h) (q .loop .count) (q .loop .counter) v (st .pre .1 .1) (halfOf (g .a) (g .b) (g .tol) (g .dir) (g .x) (g .t) (g .n)) (whole-is (g .a) (g .b) (g .tol) (g .dir) (g .x) (g .p) (g .n) (q .before .before .first-walker .result) (q .before .first-stride .result) (g .t) (st .pre .0) (q .before .before .first-walker .ensures) (q .before .first-stride .ensures)) (omega (arith, c .before .before .before .before .before .before .before .before .before .loop-test .taken)) (c .before .before .before .before .before .before .before .before .step .ensures) _ _ (c .before .before .before .before .before .before .stepped3 .given .1) (c .before .before .put3 .ensures ∙ ap (λ (r : Row). placed (q .loop .out) (7 * q .loop .count) r) (c .before .before .before .row-for3 .ensures))
+
+enum-told : tie.Need-enum-told Inv-loop μ-loop
+enum-told c = search needs
+
+same-length-3 : tie.Need-same-length-3 Inv-loop μ-loop
+same-length-3 c = search needs
+
+returns-3 : tie.Need-returns-3 Inv-loop μ-loop
+returns-3 c =
+    let q = c .before .before .before .before in
+    let st = q .before .before .before .before in
+    let g = st .args in
+    let v = q .loop .inv in
+    going-ended (g .a) (g .b) (g .tol) (g .dir) (g .x) (g .p) (g .n) (q .before .before .first-walker .result) (q .before .first-stride .result) (st .pre .0) (now (g .out)) (q .loop .out) (q .loop .w) (q .loop .h) (q .loop .count) (q .loop .counter) v (st .pre .1 .1) (halfOf (g .a) (g .b) (g .tol) (g .dir) (g .x) (g .t) (g .n)) (whole-is (g .a) (g .b) (g .tol) (g .dir) (g .x) (g .p) (g .n) (q .before .before .first-walker .result) (q .before .first-stride .result) (g .t) (st .pre .0) (q .before .before .first-walker .ensures) (q .before .first-stride .ensures)) (omega (arith, c .before .before .before .loop-test .taken)) (c .before .before .step .ensures) (c .enum-told .given .1)
+
+add-counter : tie.Need-add-counter Inv-loop μ-loop
+add-counter c =
+    let q = c .before .before .before .before .before .before .before .before .before .before in
+    let st = q .before .before .before .before in
+    let g = st .args in
+    let v = q .loop .inv in
+    let f = c .before .before .before .before .before .before .before .before .before .loop-test .taken in
+    let k = st .pre .1 .0 in
+    search needs
+
+loop-less : tie.Need-loop-less Inv-loop μ-loop
+loop-less c = search needs
+
+loop-again : tie.Need-loop-again Inv-loop μ-loop
+loop-again c =
+    let q = c .before .before .before .before .before .before .before .before .before .before in
+    let st = q .before .before .before .before in
+    let g = st .args in
+    let v = q .loop .inv in
+    going-on (g .a) (g .b) (g .tol) (g .dir) (g .x) (g .p) (g .n) (q .before .before .first-walker .result) (q .before .first-stride .result) (st .pre .0) (now (g .out)) (q .loop .out) (q .loop .w) (q .loop .h) (q .loop .count) (q .loop .counter) v (st .pre .1 .1) _ refl (omega (arith, c .before .before .before .before .before .before .before .before .before .loop-test .taken)) (c .before .before .before .before .before .before .before .before .step .ensures) _ _ (c .before .before .before .before .before .before .stepped .given .1) (c .before .before .put .ensures ∙ ap (λ (r : Row). placed (q .loop .out) (7 * q .loop .count) r) (c .before .before .before .row-for .ensures))
+
+same-length-4 : tie.Need-same-length-4 Inv-loop μ-loop
+same-length-4 c = search needs
+
+returns-4 : tie.Need-returns-4 Inv-loop μ-loop
+returns-4 c =
+    let q = c .before in
+    let st = q .before .before .before .before in
+    let g = st .args in
+    let v = q .loop .inv in
+    going-spent (g .a) (g .b) (g .tol) (g .dir) (g .x) (g .p) (g .n) (q .before .before .first-walker .result) (q .before .first-stride .result) (st .pre .0) (now (g .out)) (q .loop .out) (q .loop .w) (q .loop .h) (q .loop .count) (q .loop .counter) v (st .pre .1 .1) (halfOf (g .a) (g .b) (g .tol) (g .dir) (g .x) (g .t) (g .n)) (whole-is (g .a) (g .b) (g .tol) (g .dir) (g .x) (g .p) (g .n) (q .before .before .first-walker .result) (q .before .first-stride .result) (g .t) (st .pre .0) (q .before .before .first-walker .ensures) (q .before .first-stride .ensures)) (omega (arith, c .loop-test .left))
+
+pub half-spec : {M : Type 1} → statement M
+half-spec =
+    tie.close
+    (tie.spec
+    Inv-loop
+    μ-loop
+    first-walker-requires
+    first-stride-requires
+    loop-holds
+    step-requires
+    enum-known-stepped
+    mul-put
+    row-for-requires
+    put-requires
+    add-count
+    enum-known-stepped-2
+    left-of-requires
+    mul-put-2
+    row-for-requires-2
+    put-requires-2
+    add-t30
+    same-length
+    returns
+    enum-known-stepped-3
+    mul-put-3
+    row-for-requires-3
+    put-requires-3
+    add-t35
+    same-length-2
+    returns-2
+    enum-told
+    same-length-3
+    returns-3
+    add-counter
+    loop-less
+    loop-again
+    same-length-4
+    returns-4)
