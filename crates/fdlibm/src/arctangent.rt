@@ -56,7 +56,7 @@ const PI: f64 = 3.1415926535897931160E+00;
 const PI_LO: f64 = 1.2246467991473531772E-16;
 
 // 1 - atan(x) / x, by the odd and the even coefficients apart.
-pub fn atan_series(x: f64) -> f64
+pub(crate) fn atan_series(x: f64) -> f64
     ensures { λ r. ⌜ r ≡ seriesOf x ⌝ }
 {
     let z = x * x;
@@ -67,7 +67,7 @@ pub fn atan_series(x: f64) -> f64
 }
 
 // From 2^66 on: a right angle, or a NaN.
-pub fn atan_far(x: f64, sign: u64) -> f64
+pub(crate) fn atan_far(x: f64, sign: u64) -> f64
     ensures { λ r. ⌜ r ≡ farOf x sign ⌝ }
 {
     if x != x {
@@ -87,7 +87,7 @@ fn placed(hi: f64, lo: f64, x: f64) -> f64
 }
 
 // The arc tangent of a t from 7/16 on, of high word ix: from that of 1/2, 1, 3/2 or infinity.
-pub fn atan_folded(t: f64, ix: u64) -> f64
+pub(crate) fn atan_folded(t: f64, ix: u64) -> f64
     ensures { λ r. ⌜ r ≡ foldedOf t ix ⌝ }
 {
     if ix < 0x3fe6_0000 {
@@ -102,7 +102,7 @@ pub fn atan_folded(t: f64, ix: u64) -> f64
 }
 
 // The C's switch on m, which is the sign of y with twice the sign of x.
-pub fn by_signs(m: u64, a: f64, b: f64, c: f64, d: f64) -> f64
+pub(crate) fn by_signs(m: u64, a: f64, b: f64, c: f64, d: f64) -> f64
     ensures { λ r. ⌜ r ≡ bySigns m a b c d ⌝ }
 {
     match m {
@@ -114,14 +114,14 @@ pub fn by_signs(m: u64, a: f64, b: f64, c: f64, d: f64) -> f64
 }
 
 // Where y is a zero.
-pub fn on_axis(y: f64, m: u64) -> f64
+pub(crate) fn on_axis(y: f64, m: u64) -> f64
     ensures { λ r. ⌜ r ≡ onAxis y m ⌝ }
 {
     by_signs(m, y, y, PI + TINY, -PI - TINY)
 }
 
 // Where x is a zero, or y infinite: a right angle.
-pub fn upright(y_sign: u64) -> f64
+pub(crate) fn upright(y_sign: u64) -> f64
     ensures { λ r. ⌜ r ≡ upright «y_sign» ⌝ }
 {
     if y_sign == 0 {
@@ -132,7 +132,7 @@ pub fn upright(y_sign: u64) -> f64
 }
 
 // Where x is infinite.
-pub fn far_along(iy: u64, m: u64) -> f64
+pub(crate) fn far_along(iy: u64, m: u64) -> f64
     ensures { λ r. ⌜ r ≡ farAlong iy m ⌝ }
 {
     if iy == 0x7ff0_0000 {
@@ -149,7 +149,7 @@ pub fn far_along(iy: u64, m: u64) -> f64
 }
 
 // The arc tangent of |y / x|, of which a quotient above 2^60 needs no series, nor one below 2^-60 where x is negative.
-pub fn quotient(y: f64, x: f64, x_sign: u64, iy: u64, ix: u64) -> f64
+pub(crate) fn quotient(y: f64, x: f64, x_sign: u64, iy: u64, ix: u64) -> f64
     requires { ⌜ (iy < 2 ^ 32) × (ix < 2 ^ 32) ⌝ }
     ensures { λ r. ⌜ r ≡ quotientOf y x «x_sign» iy ix ⌝ }
 {
@@ -165,7 +165,7 @@ pub fn quotient(y: f64, x: f64, x_sign: u64, iy: u64, ix: u64) -> f64
 }
 
 // The angle whose arc tangent of |y / x| is z, in the quarter of the plane that m names.
-pub fn around(m: u64, z: f64) -> f64
+pub(crate) fn around(m: u64, z: f64) -> f64
     ensures { λ r. ⌜ r ≡ aroundOf m z ⌝ }
 {
     by_signs(m, z, -z, PI - (z - PI_LO), (z - PI_LO) - PI)

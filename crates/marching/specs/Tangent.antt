@@ -3,7 +3,7 @@ use mathlib.Core.List.{List, [], _∷_}
 use lib.Ieee.{Float}
 use Rattle.loops.specs.Loop.{pick}
 use Rattle.number.specs.Operators.{bits, _⊕_, _⊗_, _⊘_, _≤?_}
-use Rattle.number.specs.Helpers.{maxOf}
+use Rattle.number.specs.Helpers.{minPositive, maxOf}
 use Rattle.geometry.specs.declared.vector.Vector3D.{Vector3D}
 use Rattle.geometry.specs.declared.tolerance.Tolerance.{Tolerance}
 use Rattle.geometry.specs.Vector.{dotOf, crossOf, magnitudeOf, scaleOf}
@@ -14,19 +14,13 @@ use Rattle.analytic.specs.Surface.{evalD1}
 use Rattle.solve.specs.declared.Solution2.{Solution2}
 use Rattle.solve.specs.declared.Solved2.{Solved2}
 use Rattle.solve.specs.declared.Solved2.the-variants.{Solution, Singular}
-use Rattle.solve.specs.Solve.{solve2Of}
+use Rattle.solve.specs.Solve.{solverTol, solve2Of}
 use Rattle.marching.specs.declared.tangent.Direction.{Direction}
 use Rattle.marching.specs.declared.tangent.Direction.the-variants.{Along, Missing}
 
--- 1, 0, the smallest normal number, and the solvers' tol of 1e-12
+-- the 1 of the Rust's `1.0 / length`
 abbrev pub one : Float
 one = bits 0x3FF0_0000_0000_0000
-
-abbrev pub minPositive : Float
-minPositive = bits 0x0010_0000_0000_0000
-
-abbrev pub solverTol : Float
-solverTol = bits 0x3D71_9799_812D_EA11
 
 -- "the crosses being vector products of the derivatives"
 unfoldable pub normalOf : Patch → Float → Float → Vector3D

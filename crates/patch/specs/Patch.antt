@@ -3,12 +3,12 @@ use mathlib.Core.Bool.{Bool, true, false, _&&_, cond}
 use lib.Ieee.{Float}
 use Rattle.loops.specs.Loop.{pick}
 use Rattle.number.specs.Operators.{bits, _<?_, _≤?_}
-use Rattle.number.specs.Helpers.{absOf, clampOf, magnitudeAtMost}
+use Rattle.number.specs.Helpers.{absOf, clampOf, numberFit}
 use Rattle.refusal.specs.declared.Refusal.the-variants.{Number, Size, TurnMark}
 use Rattle.refusal.specs.declared.Refusal.the-variants as Refusal
-use Rattle.geometry.specs.declared.point.Point3D.{Point3D}
 use Rattle.geometry.specs.declared.vector.Vector3D.{Vector3D}
 use Rattle.geometry.specs.declared.frame.Frame3D.{Frame3D}
+use Rattle.geometry.specs.Point.{pointFit}
 use Rattle.analytic.specs.declared.surface.Surface.{Surface}
 use Rattle.analytic.specs.declared.surface.Surface.the-variants.{Plane, Cylinder, Cone, Sphere, Torus}
 use Rattle.patch.specs.declared.patch.Window.{Window}
@@ -18,12 +18,6 @@ use Rattle.patch.specs.declared.patch.Fitness.{Fitness}
 use Rattle.patch.specs.declared.patch.Fitness.the-variants.{Fit, Unfit}
 
 -- ---- 1: "a number of the frame or a size is not finite, or above 2^20 in magnitude"
-
-unfoldable pub numberFit : Float → Bool
-numberFit x = magnitudeAtMost x (bits 0x4130_0000_0000_0000)
-
-unfoldable pub pointFit : Point3D → Bool
-pointFit p = numberFit (p .x) && (numberFit (p .y) && numberFit (p .z))
 
 unfoldable pub vectorFit : Vector3D → Bool
 vectorFit d = numberFit (d .x) && (numberFit (d .y) && numberFit (d .z))

@@ -22,11 +22,11 @@ use Rattle.marching.specs.declared.tangent.Direction.{Direction}
 use Rattle.marching.specs.declared.tangent.Direction.the-variants as direction
 use Rattle.marching.specs.declared.leaving.Exit.{Exit}
 use Rattle.marching.specs.declared.leaving.Exit.the-variants as exit
-use Rattle.marching.specs.declared.newton.Met.{Met}
-use Rattle.marching.specs.declared.newton.Met.the-variants as met
+use Rattle.meeting.specs.declared.newton.Met.{Met}
+use Rattle.meeting.specs.declared.newton.Met.the-variants as met
 use Rattle.marching.specs.Tangent.{tangentOf, predictOf}
 use Rattle.marching.specs.Leaving.{leavingOf}
-use Rattle.marching.specs.Newton.{meetOf, meetInPlaneOf, landOf}
+use Rattle.meeting.specs.Newton.{meetOf, meetInPlaneOf, landOf}
 use Rattle.probe_marching.specs.declared.Call.{Call}
 
 -- ---- what the numbers mean

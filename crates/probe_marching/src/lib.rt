@@ -11,7 +11,7 @@ use geometry::Tolerance;
 use geometry::Vector3D;
 use marching::Direction;
 use marching::Exit;
-use marching::Met;
+use meeting::Met;
 use patch::Parameters;
 use patch::Patch;
 use patch::Window;
@@ -215,7 +215,7 @@ pub extern "C" fn probe_meet(input: &[f64], output: &mut [f64]) -> u64
         return 9;
     }
     let c = read(input);
-    let met = marching::newton::meet(c.a, c.b, c.x, c.tol);
+    let met = meeting::newton::meet(c.a, c.b, c.x, c.tol);
     match met {
         Met::At(y) => {
             put_parameters(output, y);
@@ -239,7 +239,7 @@ pub extern "C" fn probe_meet_in_plane(input: &[f64], output: &mut [f64]) -> u64
     let c = read(input);
     let origin = point(input, 48);
     let normal = vector(input, 51);
-    let met = marching::newton::meet_in_plane(c.a, c.b, c.x, origin, normal, c.tol);
+    let met = meeting::newton::meet_in_plane(c.a, c.b, c.x, origin, normal, c.tol);
     match met {
         Met::At(y) => {
             put_parameters(output, y);
@@ -261,7 +261,7 @@ pub extern "C" fn probe_land(input: &[f64], pin: u64, output: &mut [f64]) -> u64
         return 9;
     }
     let c = read(input);
-    let met = marching::newton::land(c.a, c.b, c.x, pin as usize, input[48], c.tol);
+    let met = meeting::newton::land(c.a, c.b, c.x, pin as usize, input[48], c.tol);
     match met {
         Met::At(y) => {
             put_parameters(output, y);

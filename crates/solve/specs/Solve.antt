@@ -6,7 +6,7 @@ use lib.ListN.{getD, set, replicate}
 use lib.Ieee.{Float, nan}
 use Rattle.loops.specs.Loop.{pick, ranged, Flow, on, out, searched}
 use Rattle.number.specs.Operators.{_⊕_, _⊖_, _⊗_, _⊘_, _<?_, _≤?_, bits}
-use Rattle.number.specs.Helpers.{absOf, maxOf}
+use Rattle.number.specs.Helpers.{minPositive, absOf, maxOf}
 use Rattle.solve.specs.declared.Solution2.{Solution2}
 use Rattle.solve.specs.declared.Solved2.{Solved2}
 use Rattle.solve.specs.declared.Solved3.{Solved3}
@@ -14,6 +14,10 @@ use Rattle.solve.specs.declared.Solved4.{Solved4}
 use Rattle.solve.specs.declared.Solved2.the-variants as solved2
 use Rattle.solve.specs.declared.Solved3.the-variants as solved3
 use Rattle.solve.specs.declared.Solved4.the-variants as solved4
+
+-- "tol is 1e-12 throughout": the walk's solves; the solvers take any
+abbrev pub solverTol : Float
+solverTol = bits 0x3D71_9799_812D_EA11
 
 -- the entry in row r and column c
 abbrev pub cell : List (List Float) → ℕ → ℕ → Float
@@ -89,7 +93,7 @@ swappedOf n col s = system (swapOf [] (s .rows) col (pivotOf n (s .rows) col)) (
 
 -- "gives up when it is at most tol times max(sum of magnitudes, smallest normal)"; a NaN is not at most
 abbrev pub givesUp : Float → Float → Float → Bool
-givesUp pivot tol scale = absOf pivot ≤? tol ⊗ maxOf scale (bits 0x0010_0000_0000_0000)
+givesUp pivot tol scale = absOf pivot ≤? tol ⊗ maxOf scale minPositive
 
 -- `acc -= m[row][k] * x[k]`
 abbrev pub lessProduct : List Float → List Float → ℕ → Float → Float
