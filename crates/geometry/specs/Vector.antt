@@ -28,12 +28,9 @@ unfoldable pub magnitudeOf : Vector3D → Float
 unfolding squareMagnitudeOf
 magnitudeOf a = sqrtOf (squareMagnitudeOf a)
 
--- Vector3D + Vector3D, Vector3D - Vector3D, -Vector3D, Vector3D * f64 (and f64 * Vector3D: products of two numbers don't depend on their order)
+-- Vector3D + Vector3D, -Vector3D, Vector3D * f64 (and f64 * Vector3D: products of two numbers don't depend on their order)
 unfoldable pub addOf : Vector3D → Vector3D → Vector3D
 addOf a b = record { x = a .x ⊕ b .x; y = a .y ⊕ b .y; z = a .z ⊕ b .z }
-
-unfoldable pub subOf : Vector3D → Vector3D → Vector3D
-subOf a b = record { x = a .x ⊖ b .x; y = a .y ⊖ b .y; z = a .z ⊖ b .z }
 
 unfoldable pub negOf : Vector3D → Vector3D
 negOf a = record { x = neg (a .x); y = neg (a .y); z = neg (a .z) }

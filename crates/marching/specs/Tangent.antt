@@ -11,10 +11,10 @@ use Rattle.patch.specs.declared.patch.Patch.{Patch}
 use Rattle.patch.specs.declared.patch.Parameters.{Parameters}
 use Rattle.analytic.specs.declared.analytic.Derivatives.{Derivatives}
 use Rattle.analytic.specs.Surface.{evalD1}
-use Rattle.solve.specs.declared.Solution2.{Solution2}
-use Rattle.solve.specs.declared.Solved2.{Solved2}
-use Rattle.solve.specs.declared.Solved2.the-variants.{Solution, Singular}
-use Rattle.solve.specs.Solve.{solverTol, solve2Of}
+use Rattle.cramer.specs.declared.Solution2.{Solution2}
+use Rattle.cramer.specs.declared.Solved2.{Solved2}
+use Rattle.cramer.specs.declared.Solved2.the-variants.{Solution, Singular}
+use Rattle.cramer.specs.Cramer.{solverTol, solve2Of}
 use Rattle.marching.specs.declared.tangent.Direction.{Direction}
 use Rattle.marching.specs.declared.tangent.Direction.the-variants.{Along, Missing}
 

@@ -18,7 +18,8 @@ use Rattle.solve.specs.declared.Solved3.{Solved3}
 use Rattle.solve.specs.declared.Solved4.{Solved4}
 use Rattle.solve.specs.declared.Solved3.the-variants as solved3
 use Rattle.solve.specs.declared.Solved4.the-variants as solved4
-use Rattle.solve.specs.Solve.{solverTol, solve3Of, solve4Of}
+use Rattle.cramer.specs.Cramer.{solverTol}
+use Rattle.solve.specs.Solve.{solve3Of, solve4Of}
 use Rattle.meeting.specs.declared.step.Target.{Target}
 use Rattle.meeting.specs.declared.step.Target.the-variants.{Free, Plane, Pin}
 use Rattle.meeting.specs.declared.step.Residual.{Residual}

@@ -85,7 +85,7 @@ fn landed(
 fn turn(t: Vector3D, ty: Vector3D) -> f64
     ensures { λ r. ⌜ r ≡ turnOf t ty ⌝ }
 {
-    fdlibm::atan2(t.cross(ty).magnitude(), t.dot(ty))
+    arctangent::atan2(t.cross(ty).magnitude(), t.dot(ty))
 }
 
 // Whether the step stays near the curve (its chord times its turn is at most 32 chord deviations) and on this branch (it turns by at
