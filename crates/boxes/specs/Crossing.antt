@@ -34,15 +34,17 @@ boxFit b = pointFit (b .low) && (pointFit (b .high) && sidesFit b)
 abbrev pub unfitAt : List Float → ℕ → Bool
 unfitAt l i = not (pointFit (pointAt l i))
 
+-- whether 18 stops one of the points
 unfoldable pub someUnfit : List Float → ℕ → Bool
 someUnfit l count = some (unfitAt l) 0 count
 
--- the paper's number for each case (0: not refused), and whether the trace is crossed
+-- the paper's number for each case (0: not refused)
 abbrev pub refusalOf : Crossed → ℕ
 refusalOf Yes = 0
 refusalOf No = 0
 refusalOf (Refused r) = numberOf r
 
+-- whether the trace is crossed
 abbrev pub crossedOf : Crossed → Bool
 crossedOf Yes = true
 crossedOf No = false

@@ -18,10 +18,11 @@ pointOf x y z = record { x = x; y = y; z = z }
 unfoldable pub distanceOf : Point3D → Point3D → Float
 distanceOf p q = sqrtOf ((q .x ⊖ p .x) ⊗ (q .x ⊖ p .x) ⊕ (q .y ⊖ p .y) ⊗ (q .y ⊖ p .y) ⊕ (q .z ⊖ p .z) ⊗ (q .z ⊖ p .z))
 
--- Point3D + Vector3D, and Point3D - Point3D
+-- Point3D + Vector3D of point.rs
 unfoldable pub addVectorOf : Point3D → Vector3D → Point3D
 addVectorOf p v = record { x = p .x ⊕ v .x; y = p .y ⊕ v .y; z = p .z ⊕ v .z }
 
+-- Point3D - Point3D of point.rs
 unfoldable pub fromOf : Point3D → Point3D → Vector3D
 fromOf p q = record { x = p .x ⊖ q .x; y = p .y ⊖ q .y; z = p .z ⊖ q .z }
 
@@ -29,9 +30,10 @@ fromOf p q = record { x = p .x ⊖ q .x; y = p .y ⊖ q .y; z = p .z ⊖ q .z }
 unfoldable pub pointFit : Point3D → Bool
 pointFit p = numberFit (p .x) && (numberFit (p .y) && numberFit (p .z))
 
--- "the exact squared gap is that sum for the same two, unrounded": in units of 2 ^ -1074, squared
+-- a square, over whole numbers
 abbrev pub squareOf : ℕ → ℕ
 squareOf n = n * n
 
+-- "the exact squared gap is that sum for the same two, unrounded": in units of 2 ^ -1074, squared
 unfoldable pub exactSquare : Point3D → Point3D → ℕ
 exactSquare p q = squareOf (natAbs (inUnits (p .x) -ℤ inUnits (q .x))) + squareOf (natAbs (inUnits (p .y) -ℤ inUnits (q .y))) + squareOf (natAbs (inUnits (p .z) -ℤ inUnits (q .z)))

@@ -11,7 +11,7 @@ use lib.Ieee.Scale.{finite}
 use Rattle.loops.specs.Loop.{pick, Flow, on, out}
 use Rattle.loops.proofs.Loop.{Kept, searched-keeps}
 use Rattle.number.specs.Operators.{_⊗_, _<?_, _≤?_}
-use Rattle.number.specs.Helpers.{absOf}
+use Rattle.number.specs.Helpers.{half, absOf}
 use Rattle.number.specs.Units.{mag, neg?}
 use Rattle.number.proofs.Values.{Is, whole}
 use Rattle.number.proofs.Order.{le-self, le-numbers, le-through}
@@ -39,7 +39,7 @@ use Rattle.meeting.specs.declared.newton.Round.{Round}
 use Rattle.meeting.specs.declared.newton.Round.the-variants as round
 use Rattle.meeting.specs.Parameters.{parameterOf, withParameter}
 use Rattle.meeting.specs.Step.{pointA, pointB, residualOf, newtonStep, allShifted, shiftedOf}
-use Rattle.meeting.specs.Newton.{tenth, half, nearOf, trialStep, noTrial, trialsOf, lastTest, afterTrials, afterStep, roundOf, goingOn, roundStep, newtonOf, meetOf, meetInPlaneOf, landOf}
+use Rattle.meeting.specs.Newton.{tenth, nearOf, trialStep, noTrial, trialsOf, lastTest, afterTrials, afterStep, roundOf, goingOn, roundStep, newtonOf, meetOf, meetInPlaneOf, landOf}
 use Rattle.good.specs.Good.{Good, windowAt}
 
 -- ---- a state of Newton's method holds the difference of the two points at its parameters, and what every move of them keeps

@@ -15,7 +15,8 @@ use Rattle.meeting.specs.declared.newton.Trial.the-variants as trial
 use Rattle.meeting.specs.declared.newton.Round.{Round}
 use Rattle.meeting.specs.declared.newton.Round.the-variants as round
 use Rattle.meeting.specs.Step.{residualOf, shiftedOf}
-use Rattle.meeting.specs.Newton.{trialStep, half, roundOf, roundStep}
+use Rattle.number.specs.Helpers.{half}
+use Rattle.meeting.specs.Newton.{trialStep, roundOf, roundStep}
 
 module _ (a b : Patch) (target : Target) (s : Residual) (d : Parameters) (i : ℕ) (scale : Float) {y z : Parameters} {t : Residual}
     (ey : y ≡ shiftedOf target (s .x) d scale) (ez : z ≡ withinBounds a b y) (et : t ≡ residualOf a b target z) where

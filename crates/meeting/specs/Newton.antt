@@ -4,7 +4,7 @@ use Prim.Native.Nat.{ℕ}
 use lib.Ieee.{Float}
 use Rattle.loops.specs.Loop.{pick, Flow, on, out, searched}
 use Rattle.number.specs.Operators.{bits, _⊗_, _<?_, _≤?_}
-use Rattle.number.specs.Helpers.{absOf}
+use Rattle.number.specs.Helpers.{one, half, absOf}
 use Rattle.geometry.specs.declared.vector.Vector3D.{Vector3D}
 use Rattle.geometry.specs.declared.point.Point3D.{Point3D}
 use Rattle.geometry.specs.declared.tolerance.Tolerance.{Tolerance}
@@ -30,32 +30,31 @@ use Rattle.meeting.specs.Step.{residualOf, newtonStep, shiftedOf}
 unfoldable pub nearOf : Patch → Patch → Residual → Float → Bool
 nearOf a b s bound = magnitudeOf (s .f) ≤? bound && (absOf (s .r) ≤? bound && insideOf a b (s .x))
 
--- a tenth, a half and one
+-- "a tenth of confusion": the Rust's `0.1`
 abbrev pub tenth : Float
 tenth = bits 0x3FB9_9999_9999_999A
 
-abbrev pub half : Float
-half = bits 0x3FE0_0000_0000_0000
-
-abbrev pub whole : Float
-whole = bits 0x3FF0_0000_0000_0000
-
 -- ---- "up to 12 trials with halved scale, the first with strictly smaller merit taken"
 
+-- "the first with strictly smaller merit taken", else half the scale
 abbrev pub trialAt : Residual → Residual → Float → Flow Float Trial
 trialAt s t scale = pick (t .merit <? s .merit) (out (trial.Better t)) (on (scale ⊗ half))
 
+-- a trial: the step scaled, clamped to the windows, its residual
 abbrev pub trialStep : Patch → Patch → Target → Residual → Parameters → ℕ → Float → Flow Float Trial
 trialStep a b target s d i scale = trialAt s (residualOf a b target (withinBounds a b (shiftedOf target (s .x) d scale))) scale
 
+-- "Without one the rounds end."
 abbrev pub noTrial : Float → Trial
 noTrial scale = trial.Nothing
 
+-- the trials from the i-th on
 abbrev pub trialsFrom : Patch → Patch → Target → Residual → Parameters → ℕ → Float → Trial
 trialsFrom a b target s d i scale = searched (trialStep a b target s d) noTrial i 12 (on scale)
 
+-- all 12, from the scale 1.0
 unfoldable pub trialsOf : Patch → Patch → Target → Residual → Parameters → Trial
-trialsOf a b target s d = trialsFrom a b target s d 0 whole
+trialsOf a b target s d = trialsFrom a b target s d 0 one
 
 -- ---- one round
 
@@ -80,24 +79,30 @@ roundOf a b target confusion s =
 
 -- ---- "at most 32 rounds"
 
+-- what a round says to the loop
 abbrev pub goingOn : Round → Flow Residual Met
 goingOn (round.Next t) = on t
 goingOn (round.End m) = out m
 
+-- one turn of the loop
 abbrev pub roundStep : Patch → Patch → Target → Float → ℕ → Residual → Flow Residual Met
 roundStep a b target confusion i s = goingOn (roundOf a b target confusion s)
 
+-- the rounds from the i-th on, then the last test
 abbrev pub roundsFrom : Patch → Patch → Target → Float → ℕ → Residual → Met
 roundsFrom a b target confusion i s = searched (roundStep a b target confusion) (lastTest a b confusion) i 32 (on s)
 
+-- all 32, from the residual at x
 unfoldable pub newtonOf : Patch → Patch → Target → Parameters → Float → Met
 newtonOf a b target x confusion = roundsFrom a b target confusion 0 (residualOf a b target x)
 
 -- ---- "`meet`: the guess is clamped to windows without turn mark", without and with a plane
 
+-- `meet` without a plane
 unfoldable pub meetOf : Patch → Patch → Parameters → Tolerance → Met
 meetOf a b x tol = newtonOf a b Free (withinBounds a b x) (tol .confusion)
 
+-- `meet` with a plane
 unfoldable pub meetInPlaneOf : Patch → Patch → Parameters → Point3D → Vector3D → Tolerance → Met
 meetInPlaneOf a b x origin normal tol = newtonOf a b (Plane origin normal) (withinBounds a b x) (tol .confusion)
 

@@ -5,6 +5,14 @@ use lib.Dec.{eqb}
 use lib.Ieee.{Float, nan, inf, fin, binary64, isNan, toBits}
 use Rattle.number.specs.Operators.{bits, _<?_, _≤?_}
 
+-- the Rust's `1.0`
+abbrev pub one : Float
+one = bits 0x3FF0_0000_0000_0000
+
+-- the Rust's `0.5`, by which strides and trials shrink
+abbrev pub half : Float
+half = bits 0x3FE0_0000_0000_0000
+
 -- "smallest normal": 2^-1022, the Rust's `f64::MIN_POSITIVE`
 abbrev pub minPositive : Float
 minPositive = bits 0x0010_0000_0000_0000
@@ -15,11 +23,12 @@ absOf nan = nan
 absOf (inf s) = inf false
 absOf (fin s m e) = fin false m e
 
--- "Maximum and minimum drop a NaN when the other is a number"; of two equal ones the first is given
+-- maximum: "drop a NaN when the other is a number"; of two equal ones the first is given
 unfoldable pub maxOf : Float → Float → Float
 unfolding isNan
 maxOf a b = cond (isNan a) b (cond (isNan b) a (cond (a <? b) b a))
 
+-- minimum: likewise
 unfoldable pub minOf : Float → Float → Float
 unfolding isNan
 minOf a b = cond (isNan a) b (cond (isNan b) a (cond (b <? a) b a))
