@@ -19,10 +19,11 @@ planeD0 f u v = pointAtOf f u v (bits 0)
 unfoldable pub cylinderD0 : Frame3D → Float → Float → Float → Point3D
 cylinderD0 f r u v = pointAtOf f (r ⊗ cosOf u) (r ⊗ sinOf u) v
 
--- cone_d0: the radius at v is the reference radius + v * sin(semi-angle)
+-- the cone's radius at v: ref_r + v * sin(semi_angle)
 abbrev pub coneRadius : Float → Float → Float → Float
 coneRadius r a v = r ⊕ v ⊗ sinOf a
 
+-- cone_d0
 unfoldable pub coneD0 : Frame3D → Float → Float → Float → Float → Point3D
 coneD0 f r a u v = pointAtOf f (coneRadius r a v ⊗ cosOf u) (coneRadius r a v ⊗ sinOf u) (v ⊗ cosOf a)
 
@@ -30,10 +31,11 @@ coneD0 f r a u v = pointAtOf f (coneRadius r a v ⊗ cosOf u) (coneRadius r a v 
 unfoldable pub sphereD0 : Frame3D → Float → Float → Float → Point3D
 sphereD0 f r u v = pointAtOf f (r ⊗ cosOf v ⊗ cosOf u) (r ⊗ cosOf v ⊗ sinOf u) (r ⊗ sinOf v)
 
--- torus_d0: the radius at v is major + minor * cos(v)
+-- the torus's radius at v: maj + min * cos(v)
 abbrev pub torusRadius : Float → Float → Float → Float
 torusRadius maj min v = maj ⊕ min ⊗ cosOf v
 
+-- torus_d0
 unfoldable pub torusD0 : Frame3D → Float → Float → Float → Float → Point3D
 torusD0 f maj min u v = pointAtOf f (torusRadius maj min v ⊗ cosOf u) (torusRadius maj min v ⊗ sinOf u) (min ⊗ sinOf v)
 

@@ -12,13 +12,13 @@ pub struct Derivatives {
     pub v: Vector3D,
 }
 
-pub fn plane_d0(frame: Frame3D, u: f64, v: f64) -> Point3D
+pub(crate) fn plane_d0(frame: Frame3D, u: f64, v: f64) -> Point3D
     ensures { λ r. ⌜ r ≡ planeD0 frame u v ⌝ }
 {
     frame.point_at(u, v, 0.0)
 }
 
-pub fn plane_derivatives(frame: Frame3D) -> Derivatives
+pub(crate) fn plane_derivatives(frame: Frame3D) -> Derivatives
     ensures { λ r. ⌜ r ≡ planeDerivatives frame ⌝ }
 {
     Derivatives {
@@ -27,7 +27,7 @@ pub fn plane_derivatives(frame: Frame3D) -> Derivatives
     }
 }
 
-pub fn cylinder_d0(frame: Frame3D, r: f64, u: f64, v: f64) -> Point3D
+pub(crate) fn cylinder_d0(frame: Frame3D, r: f64, u: f64, v: f64) -> Point3D
     ensures { λ p. ⌜ p ≡ cylinderD0 frame r u v ⌝ }
 {
     let a1 = r * fdlibm::cos(u);
@@ -35,7 +35,7 @@ pub fn cylinder_d0(frame: Frame3D, r: f64, u: f64, v: f64) -> Point3D
     frame.point_at(a1, a2, v)
 }
 
-pub fn cylinder_derivatives(frame: Frame3D, r: f64, u: f64) -> Derivatives
+pub(crate) fn cylinder_derivatives(frame: Frame3D, r: f64, u: f64) -> Derivatives
     ensures { λ d. ⌜ d ≡ cylinderDerivatives frame r u ⌝ }
 {
     let a1 = r * fdlibm::cos(u);
@@ -48,7 +48,7 @@ pub fn cylinder_derivatives(frame: Frame3D, r: f64, u: f64) -> Derivatives
     }
 }
 
-pub fn cone_d0(frame: Frame3D, ref_r: f64, semi_angle: f64, u: f64, v: f64) -> Point3D
+pub(crate) fn cone_d0(frame: Frame3D, ref_r: f64, semi_angle: f64, u: f64, v: f64) -> Point3D
     ensures { λ p. ⌜ p ≡ coneD0 frame «ref_r» «semi_angle» u v ⌝ }
 {
     let r = ref_r + v * fdlibm::sin(semi_angle);
@@ -56,7 +56,13 @@ pub fn cone_d0(frame: Frame3D, ref_r: f64, semi_angle: f64, u: f64, v: f64) -> P
     frame.point_at(r * fdlibm::cos(u), r * fdlibm::sin(u), a3)
 }
 
-pub fn cone_derivatives(frame: Frame3D, ref_r: f64, semi_angle: f64, u: f64, v: f64) -> Derivatives
+pub(crate) fn cone_derivatives(
+    frame: Frame3D,
+    ref_r: f64,
+    semi_angle: f64,
+    u: f64,
+    v: f64,
+) -> Derivatives
     ensures { λ d. ⌜ d ≡ coneDerivatives frame «ref_r» «semi_angle» u v ⌝ }
 {
     let sa = fdlibm::sin(semi_angle);
@@ -73,7 +79,7 @@ pub fn cone_derivatives(frame: Frame3D, ref_r: f64, semi_angle: f64, u: f64, v: 
     }
 }
 
-pub fn sphere_d0(frame: Frame3D, r: f64, u: f64, v: f64) -> Point3D
+pub(crate) fn sphere_d0(frame: Frame3D, r: f64, u: f64, v: f64) -> Point3D
     ensures { λ p. ⌜ p ≡ sphereD0 frame r u v ⌝ }
 {
     let rcv = r * fdlibm::cos(v);
@@ -84,7 +90,7 @@ pub fn sphere_d0(frame: Frame3D, r: f64, u: f64, v: f64) -> Point3D
     )
 }
 
-pub fn sphere_derivatives(frame: Frame3D, r: f64, u: f64, v: f64) -> Derivatives
+pub(crate) fn sphere_derivatives(frame: Frame3D, r: f64, u: f64, v: f64) -> Derivatives
     ensures { λ d. ⌜ d ≡ sphereDerivatives frame r u v ⌝ }
 {
     let x = frame.x_direction();
@@ -104,14 +110,14 @@ pub fn sphere_derivatives(frame: Frame3D, r: f64, u: f64, v: f64) -> Derivatives
     }
 }
 
-pub fn torus_d0(frame: Frame3D, maj: f64, min: f64, u: f64, v: f64) -> Point3D
+pub(crate) fn torus_d0(frame: Frame3D, maj: f64, min: f64, u: f64, v: f64) -> Point3D
     ensures { λ p. ⌜ p ≡ torusD0 frame maj min u v ⌝ }
 {
     let r = maj + min * fdlibm::cos(v);
     frame.point_at(r * fdlibm::cos(u), r * fdlibm::sin(u), min * fdlibm::sin(v))
 }
 
-pub fn torus_derivatives(frame: Frame3D, maj: f64, min: f64, u: f64, v: f64) -> Derivatives
+pub(crate) fn torus_derivatives(frame: Frame3D, maj: f64, min: f64, u: f64, v: f64) -> Derivatives
     ensures { λ d. ⌜ d ≡ torusDerivatives frame maj min u v ⌝ }
 {
     let x = frame.x_direction();

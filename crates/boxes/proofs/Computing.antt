@@ -1,15 +1,15 @@
 -- For evaluation: what has to unfold so that the crossing's definitions compute on given numbers. Assumes nothing.
 use lib.Ieee as Ieee
 use Rattle.loops.specs.Loop.{turns, exits}
-use Rattle.number.specs.Helpers.{absOf, maxOf, minOf}
+use Rattle.number.specs.Helpers.{absOf, maxOf, minOf, numberFit}
 use Rattle.groups.specs.Groups.{holdsOf}
 use Rattle.geometry.specs.Tolerance.{toleranceFit}
-use Rattle.geometry.specs.Point.{pointOf}
+use Rattle.geometry.specs.Point.{pointOf, pointFit}
 use Rattle.boxes.specs.Box.{boxesApart}
 use Rattle.boxes.specs.Trace.{pointAt, pointBox, coverOf, boundsOf}
 use Rattle.boxes.specs.Segment.{clipOf, segmentMeetsBox}
 use Rattle.boxes.specs.Crosses.{grownOf, someSegment, runCrosses, someRun, crossesOf}
-use Rattle.boxes.specs.Crossing.{numberFit, pointFit, sidesFit, boxFit, someUnfit, crossingOf}
+use Rattle.boxes.specs.Crossing.{sidesFit, boxFit, someUnfit, crossingOf}
 
 -- an example says `unfolding computing` and `refl`
 unfoldable pub computing : Unit {0}

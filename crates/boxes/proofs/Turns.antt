@@ -12,11 +12,12 @@ use Rattle.loops.specs.Loop.{pick}
 use Rattle.groups.specs.Groups.{width}
 use Rattle.groups.proofs.Groups.{part-from}
 use Rattle.geometry.specs.declared.point.Point3D.{Point3D}
+use Rattle.geometry.specs.Point.{pointFit}
 use Rattle.boxes.specs.declared.boxtree.Aabb.{Aabb}
 use Rattle.boxes.specs.Trace.{pointAt, coverOf, coverAt}
 use Rattle.boxes.specs.Segment.{segmentMeetsBox}
 use Rattle.boxes.specs.Crosses.{segmentMeets, firstOf, runCrosses, runPoints, runAt}
-use Rattle.boxes.specs.Crossing.{pointFit, unfitAt}
+use Rattle.boxes.specs.Crossing.{unfitAt}
 
 pub unfit-turn : (l : List Float) (i : ℕ) {p : Point3D} {t : Bool} → p ≡ pointAt l i → t ≡ pointFit p → unfitAt l i ≡ not t
 unfit-turn l i ep et = rw (← ep, ← et)

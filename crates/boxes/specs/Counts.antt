@@ -8,12 +8,13 @@ use lib.Ieee.{Float}
 use Rattle.groups.specs.Groups.{width, fromGroup}
 use Rattle.geometry.specs.Tolerance.{toleranceFit}
 use Rattle.geometry.specs.declared.tolerance.Tolerance.{Tolerance}
+use Rattle.geometry.specs.Point.{pointFit}
 use Rattle.boxes.specs.declared.boxtree.Aabb.{Aabb}
 use Rattle.boxes.specs.Box.{boxesApart}
 use Rattle.boxes.specs.Trace.{pointAt, boundsOf}
 use Rattle.boxes.specs.Segment.{segmentMeetsBox}
 use Rattle.boxes.specs.Crosses.{runLength, firstOf, runPoints}
-use Rattle.boxes.specs.Crossing.{pointFit, boxFit}
+use Rattle.boxes.specs.Crossing.{boxFit}
 
 -- the box of run r: of its points, from its first on
 abbrev pub runBounds : List Float → ℕ → ℕ → Aabb

@@ -29,6 +29,7 @@ grownOf b confusion = record {
 abbrev pub segmentMeets : List Float → Aabb → ℕ → Bool
 segmentMeets l b i = segmentMeetsBox (pointAt l i) (pointAt l (i + 1)) b
 
+-- whether some segment of the points meets the box
 unfoldable pub someSegment : List Float → ℕ → Aabb → Bool
 someSegment l count b = some (segmentMeets l b) 0 (count - 1)
 
@@ -40,6 +41,7 @@ runCrosses l count b = pick (boxesApart (boundsOf l count) b) false (someSegment
 abbrev pub runLength : ℕ
 runLength = 16
 
+-- the first point of run r
 abbrev pub firstOf : ℕ → ℕ
 firstOf r = runLength * r
 
@@ -55,6 +57,7 @@ runPoints count first = pick (ltb (runLength + 1) (count - first)) (runLength + 
 abbrev pub runAt : List Float → ℕ → Aabb → ℕ → Bool
 runAt l count b r = runCrosses (fromGroup width (firstOf r) l) (runPoints count (firstOf r)) b
 
+-- whether some run crosses the box
 unfoldable pub someRun : List Float → ℕ → Aabb → Bool
 someRun l count b = some (runAt l count b) 0 (runsOf count)
 

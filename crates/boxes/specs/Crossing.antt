@@ -6,12 +6,11 @@ use lib.Dec.{ltb}
 use lib.Ieee.{Float}
 use Rattle.loops.specs.Loop.{pick}
 use Rattle.loops.specs.Some.{some}
-use Rattle.number.specs.Operators.{bits, _<?_}
-use Rattle.number.specs.Helpers.{magnitudeAtMost}
+use Rattle.number.specs.Operators.{_<?_}
 use Rattle.groups.specs.Groups.{width, holdsOf}
 use Rattle.geometry.specs.Tolerance.{toleranceFit}
 use Rattle.geometry.specs.declared.tolerance.Tolerance.{Tolerance}
-use Rattle.geometry.specs.declared.point.Point3D.{Point3D}
+use Rattle.geometry.specs.Point.{pointFit}
 use Rattle.refusal.specs.Refusal.{numberOf}
 use Rattle.refusal.specs.declared.Refusal.the-variants as refusal
 use Rattle.boxes.specs.declared.boxtree.Aabb.{Aabb}
@@ -19,13 +18,6 @@ use Rattle.boxes.specs.declared.crossing.Crossed.{Crossed}
 use Rattle.boxes.specs.declared.crossing.Crossed.the-variants.{Yes, No, Refused}
 use Rattle.boxes.specs.Trace.{pointAt}
 use Rattle.boxes.specs.Crosses.{crossesOf}
-
--- not "not finite, or above 2^20 in magnitude"
-unfoldable pub numberFit : Float → Bool
-numberFit x = magnitudeAtMost x (bits 0x4130_0000_0000_0000)
-
-unfoldable pub pointFit : Point3D → Bool
-pointFit p = numberFit (p .x) && (numberFit (p .y) && numberFit (p .z))
 
 -- not "a low side above its high side"
 unfoldable pub sidesFit : Aabb → Bool
@@ -42,15 +34,17 @@ boxFit b = pointFit (b .low) && (pointFit (b .high) && sidesFit b)
 abbrev pub unfitAt : List Float → ℕ → Bool
 unfitAt l i = not (pointFit (pointAt l i))
 
+-- whether 18 stops one of the points
 unfoldable pub someUnfit : List Float → ℕ → Bool
 someUnfit l count = some (unfitAt l) 0 count
 
--- the paper's number for each case (0: not refused), and whether the trace is crossed
+-- the paper's number for each case (0: not refused)
 abbrev pub refusalOf : Crossed → ℕ
 refusalOf Yes = 0
 refusalOf No = 0
 refusalOf (Refused r) = numberOf r
 
+-- whether the trace is crossed
 abbrev pub crossedOf : Crossed → Bool
 crossedOf Yes = true
 crossedOf No = false

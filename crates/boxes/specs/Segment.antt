@@ -29,15 +29,17 @@ clipOf from d low high s =
     (pick (from <? low) Misses (pick (high <? from) Misses (Meets s)))
     (narrowed ((low ⊖ from) ⊘ d) ((high ⊖ from) ⊘ d) s)
 
--- the next axis, and what is answered after the last
+-- the next axis, unless one is missed
 abbrev pub andThen : (Span → Clipped) → Clipped → Clipped
 andThen next (Meets s) = next s
 andThen next Misses = Misses
 
+-- what is answered after the last axis
 abbrev pub met : Clipped → Bool
 met (Meets s) = true
 met Misses = false
 
+-- the Rust's loop over the axes, x then y then z
 unfoldable pub segmentMeetsBox : Point3D → Point3D → Aabb → Bool
 segmentMeetsBox p q b =
     met (andThen (clipOf (p .z) (q .z ⊖ p .z) (b .low .z) (b .high .z))

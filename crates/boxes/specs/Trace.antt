@@ -13,19 +13,21 @@ use Rattle.boxes.specs.declared.boxtree.Aabb.{Aabb}
 unfoldable pub pointAt : List Float → ℕ → Point3D
 pointAt l i = pointOf (numberAt width l i 0) (numberAt width l i 1) (numberAt width l i 2)
 
--- the box that is a point, and a box widened to hold one
+-- the box that is a point
 unfoldable pub pointBox : Point3D → Aabb
 pointBox p = record { low = p; high = p }
 
+-- a box widened to hold a point
 unfoldable pub coverOf : Aabb → Point3D → Aabb
 coverOf b p = record {
   low = pointOf (minOf (b .low .x) (p .x)) (minOf (b .low .y) (p .y)) (minOf (b .low .z) (p .z));
   high = pointOf (maxOf (b .high .x) (p .x)) (maxOf (b .high .y) (p .y)) (maxOf (b .high .z) (p .z));
 }
 
--- bounding_box: from the first point on, in their order
+-- the box widened by point i
 abbrev pub coverAt : List Float → ℕ → Aabb → Aabb
 coverAt l i b = coverOf b (pointAt l i)
 
+-- bounding_box of the points, from the first point's box on
 unfoldable pub boundsOf : List Float → ℕ → Aabb
 boundsOf l count = ranged (coverAt l) 1 count (pointBox (pointAt l 0))

@@ -1,41 +1,19 @@
 use crate::boxtree::Aabb;
 use crate::marching;
 use crate::pieces;
-use geometry::Point3D;
 use geometry::Tolerance;
 use refusal::Refusal;
 ghost use mathlib.Core.Path.{_≡_};
 ghost use Prim.Native.Nat.{_*_, _≤_};
 ghost use lib.ListN.{length};
 ghost use Rattle.groups.specs.Groups.{width};
-ghost use Rattle.boxes.specs.Crossing.{numberFit, pointFit, sidesFit, boxFit, someUnfit, crossingOf};
+ghost use Rattle.boxes.specs.Crossing.{sidesFit, boxFit, someUnfit, crossingOf};
 
 // The answer of the public crossing.
 pub enum Crossed {
     Yes,
     No,
     Refused(Refusal),
-}
-
-// Finite, and at most 2^20 in magnitude.
-fn number_fit(x: f64) -> bool
-    ensures { λ r. ⌜ r ≡ numberFit x ⌝ }
-{
-    number::magnitude_at_most(x, 1048576.0)
-}
-
-fn point_fit(p: Point3D) -> bool
-    ensures { λ r. ⌜ r ≡ pointFit p ⌝ }
-{
-    if number_fit(p.x) {
-        if number_fit(p.y) {
-            number_fit(p.z)
-        } else {
-            false
-        }
-    } else {
-        false
-    }
 }
 
 // No low side lies above its high side.
@@ -60,12 +38,10 @@ fn sides_fit(b: Aabb) -> bool
 fn box_fit(b: Aabb) -> bool
     ensures { λ r. ⌜ r ≡ boxFit b ⌝ }
 {
-    if point_fit(b.low) {
-        if point_fit(b.high) {
-            sides_fit(b)
-        } else {
-            false
-        }
+    let low = b.low;
+    let high = b.high;
+    if low.is_fit() {
+        if high.is_fit() { sides_fit(b) } else { false }
     } else {
         false
     }
@@ -77,7 +53,8 @@ fn some_unfit(points: &[f64], count: usize) -> bool
     ensures { λ r. ⌜ r ≡ someUnfit (now (points .entry)) count ⌝ }
 {
     for i in 0..count {
-        if !point_fit(pieces::point_at(points, i)) {
+        let p = pieces::point_at(points, i);
+        if !p.is_fit() {
             return true;
         }
     }

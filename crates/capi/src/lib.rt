@@ -42,7 +42,7 @@ pub extern "C" fn geomcore_cos(x: f64) -> f64
 pub extern "C" fn geomcore_atan2(y: f64, x: f64) -> f64
     ensures { λ r. ⌜ r ≡ atan2Of y x ⌝ }
 {
-    fdlibm::atan2(y, x)
+    arctangent::atan2(y, x)
 }
 
 // The answer's word: the refusal's number, and 2^8 where the trace is crossed.

@@ -22,8 +22,9 @@ use Rattle.geometry.specs.Point.{pointOf}
 use Rattle.analytic.specs.declared.surface.Surface.the-variants.{Plane, Cylinder}
 use Rattle.analytic.specs.Surface.{evalPoint}
 use Rattle.sqrt.specs.Sqrt.{sqrtOf}
-use Rattle.solve.specs.Solve.{solve2Of, solve3Of}
-use Rattle.solve.specs.declared.Solved2.the-variants as solved2
+use Rattle.cramer.specs.Cramer.{solve2Of}
+use Rattle.solve.specs.Solve.{solve3Of}
+use Rattle.cramer.specs.declared.Solved2.the-variants as solved2
 use Rattle.solve.specs.declared.Solved3.the-variants as solved3
 
 -- the numbers of the rows

@@ -28,7 +28,7 @@ const C5: f64 = 2.08757232129817482790e-09;
 const C6: f64 = -1.13596475577881948265e-11;
 
 // The sine of x + y, where tail says whether there is a y at all.
-pub fn kernel_sin(x: f64, y: f64, tail: bool) -> f64
+pub(crate) fn kernel_sin(x: f64, y: f64, tail: bool) -> f64
     ensures { λ r. ⌜ r ≡ kernelSin x y tail ⌝ }
 {
     let ix = (number::to_bits(x) >> 32) & 0x7fff_ffff;
@@ -58,7 +58,7 @@ fn quarter(ix: u64) -> f64
 }
 
 // The cosine of x + y.
-pub fn kernel_cos(x: f64, y: f64) -> f64
+pub(crate) fn kernel_cos(x: f64, y: f64) -> f64
     ensures { λ r. ⌜ r ≡ kernelCos x y ⌝ }
 {
     let ix = (number::to_bits(x) >> 32) & 0x7fff_ffff;

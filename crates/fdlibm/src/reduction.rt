@@ -220,7 +220,7 @@ fn turned_back(a: Reduction) -> Reduction
 }
 
 // An angle x less a multiple of pi/2: at most about pi/4 is left.
-pub fn rem_pio2(x: f64) -> Reduced
+pub(crate) fn rem_pio2(x: f64) -> Reduced
     ensures { λ r. ⌜ r ≡ remPio2 x ⌝ }
 {
     let bits = number::to_bits(x);

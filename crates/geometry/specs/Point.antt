@@ -1,8 +1,10 @@
 -- Points, in the order of evaluation of point.rs, and the exact squared gap of two. Definitions only.
 use Prim.Native.Nat.{ℕ, _+_, _*_}
+use mathlib.Core.Bool.{Bool, _&&_}
 use lib.IntN.{natAbs, _-ℤ_}
 use lib.Ieee.{Float}
 use Rattle.number.specs.Operators.{_⊕_, _⊖_, _⊗_}
+use Rattle.number.specs.Helpers.{numberFit}
 use Rattle.number.specs.Units.{inUnits}
 use Rattle.sqrt.specs.Sqrt.{sqrtOf}
 use Rattle.geometry.specs.declared.vector.Vector3D.{Vector3D}
@@ -16,16 +18,22 @@ pointOf x y z = record { x = x; y = y; z = z }
 unfoldable pub distanceOf : Point3D → Point3D → Float
 distanceOf p q = sqrtOf ((q .x ⊖ p .x) ⊗ (q .x ⊖ p .x) ⊕ (q .y ⊖ p .y) ⊗ (q .y ⊖ p .y) ⊕ (q .z ⊖ p .z) ⊗ (q .z ⊖ p .z))
 
--- Point3D + Vector3D, and Point3D - Point3D
+-- Point3D + Vector3D of point.rs
 unfoldable pub addVectorOf : Point3D → Vector3D → Point3D
 addVectorOf p v = record { x = p .x ⊕ v .x; y = p .y ⊕ v .y; z = p .z ⊕ v .z }
 
+-- Point3D - Point3D of point.rs
 unfoldable pub fromOf : Point3D → Point3D → Vector3D
 fromOf p q = record { x = p .x ⊖ q .x; y = p .y ⊖ q .y; z = p .z ⊖ q .z }
 
--- "the exact squared gap is that sum for the same two, unrounded": in units of 2 ^ -1074, squared
+-- the three coordinates of a point under 1, 17 and 18
+unfoldable pub pointFit : Point3D → Bool
+pointFit p = numberFit (p .x) && (numberFit (p .y) && numberFit (p .z))
+
+-- a square, over whole numbers
 abbrev pub squareOf : ℕ → ℕ
 squareOf n = n * n
 
+-- "the exact squared gap is that sum for the same two, unrounded": in units of 2 ^ -1074, squared
 unfoldable pub exactSquare : Point3D → Point3D → ℕ
 exactSquare p q = squareOf (natAbs (inUnits (p .x) -ℤ inUnits (q .x))) + squareOf (natAbs (inUnits (p .y) -ℤ inUnits (q .y))) + squareOf (natAbs (inUnits (p .z) -ℤ inUnits (q .z)))

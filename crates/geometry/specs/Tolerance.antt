@@ -12,13 +12,15 @@ defaultTolerance = record {
   parametric = bits 0x3E11_2E0B_E826_D695;
 }
 
--- 2 ^ -40, 0 and 1
+-- "2^-40"
 abbrev pub leastConfusion : Float
 leastConfusion = bits 0x3D70_0000_0000_0000
 
+-- "0", the low end of angular
 abbrev pub zero : Float
 zero = bits 0
 
+-- "1", the high end of both
 abbrev pub one : Float
 one = bits 0x3FF0_0000_0000_0000
 

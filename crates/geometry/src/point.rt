@@ -1,6 +1,6 @@
 use crate::vector::Vector3D;
 ghost use mathlib.Core.Path.{_≡_};
-ghost use Rattle.geometry.specs.Point.{pointOf, distanceOf, addVectorOf, fromOf};
+ghost use Rattle.geometry.specs.Point.{pointOf, distanceOf, addVectorOf, fromOf, pointFit};
 
 pub struct Point3D {
     pub x: f64,
@@ -44,6 +44,21 @@ impl Point3D {
             x: self.x - other.x,
             y: self.y - other.y,
             z: self.z - other.z,
+        }
+    }
+
+    // Every coordinate finite and at most 2^20 in magnitude.
+    pub fn is_fit(self) -> bool
+        ensures { λ r. ⌜ r ≡ pointFit self ⌝ }
+    {
+        if number::number_fit(self.x) {
+            if number::number_fit(self.y) {
+                number::number_fit(self.z)
+            } else {
+                false
+            }
+        } else {
+            false
         }
     }
 }

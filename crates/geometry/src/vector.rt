@@ -1,5 +1,5 @@
 ghost use mathlib.Core.Path.{_≡_};
-ghost use Rattle.geometry.specs.Vector.{zeroVector, vectorOf, dotOf, crossOf, magnitudeOf, squareMagnitudeOf, addOf, subOf, negOf, scaleOf};
+ghost use Rattle.geometry.specs.Vector.{zeroVector, vectorOf, dotOf, crossOf, magnitudeOf, squareMagnitudeOf, addOf, negOf, scaleOf};
 
 pub struct Vector3D {
     pub x: f64,
@@ -43,7 +43,7 @@ impl Vector3D {
         }
     }
 
-    pub fn square_magnitude(self) -> f64
+    fn square_magnitude(self) -> f64
         ensures { λ r. ⌜ r ≡ squareMagnitudeOf self ⌝ }
     {
         self.x * self.x + self.y * self.y + self.z * self.z
@@ -62,16 +62,6 @@ impl Vector3D {
             x: self.x + other.x,
             y: self.y + other.y,
             z: self.z + other.z,
-        }
-    }
-
-    pub fn sub(self, other: Vector3D) -> Vector3D
-        ensures { λ r. ⌜ r ≡ subOf self other ⌝ }
-    {
-        Vector3D {
-            x: self.x - other.x,
-            y: self.y - other.y,
-            z: self.z - other.z,
         }
     }
 

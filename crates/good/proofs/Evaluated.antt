@@ -20,9 +20,9 @@ use Rattle.patch.specs.declared.patch.Window.{Window}
 use Rattle.patch.specs.declared.patch.Parameters.{Parameters}
 use Rattle.patch.specs.Patch.{insideOf, windowHolds, boundedOf, withinBounds}
 use Rattle.solve.proofs.Computing as solve
-use Rattle.marching.specs.declared.newton.Met.the-variants.{At, Nothing}
-use Rattle.marching.specs.Step.{offsetOf, residualOf, columnsOf, dot4Of, normalMatrix, freeStep, newtonStep, shiftedOf}
-use Rattle.marching.specs.Newton.{nearOf, trialsOf, lastTest, roundOf, newtonOf, meetOf}
+use Rattle.meeting.specs.declared.newton.Met.the-variants.{At, Nothing}
+use Rattle.meeting.specs.Step.{offsetOf, residualOf, columnsOf, dot4Of, normalMatrix, freeStep, newtonStep, shiftedOf}
+use Rattle.meeting.specs.Newton.{nearOf, trialsOf, lastTest, roundOf, newtonOf, meetOf}
 
 -- opens what an evaluation of a meeting of planes needs
 unfoldable pub computing : Unit {0}

@@ -11,7 +11,7 @@ use lib.Ieee.Scale.{finite}
 use Rattle.loops.specs.Loop.{pick, Flow, on, out}
 use Rattle.loops.proofs.Loop.{Kept, searched-keeps}
 use Rattle.number.specs.Operators.{_⊗_, _<?_, _≤?_}
-use Rattle.number.specs.Helpers.{absOf}
+use Rattle.number.specs.Helpers.{half, absOf}
 use Rattle.number.specs.Units.{mag, neg?}
 use Rattle.number.proofs.Values.{Is, whole}
 use Rattle.number.proofs.Order.{le-self, le-numbers, le-through}
@@ -26,20 +26,20 @@ use Rattle.gap.proofs.Gap.{magnitude-is-gap, fit-tolerance, finite-between, lar
 use Rattle.patch.specs.declared.patch.Patch.{Patch}
 use Rattle.patch.specs.declared.patch.Parameters.{Parameters}
 use Rattle.patch.specs.Patch.{insideOf, boundedOf, withinBounds}
-use Rattle.marching.specs.declared.step.Target.{Target}
-use Rattle.marching.specs.declared.step.Target.the-variants.{Free, Plane, Pin}
-use Rattle.marching.specs.declared.step.Residual.{Residual}
-use Rattle.marching.specs.declared.step.Step.{Step}
-use Rattle.marching.specs.declared.step.Step.the-variants as step
-use Rattle.marching.specs.declared.newton.Met.{Met}
-use Rattle.marching.specs.declared.newton.Met.the-variants.{At, Nothing}
-use Rattle.marching.specs.declared.newton.Trial.{Trial}
-use Rattle.marching.specs.declared.newton.Trial.the-variants as trial
-use Rattle.marching.specs.declared.newton.Round.{Round}
-use Rattle.marching.specs.declared.newton.Round.the-variants as round
-use Rattle.marching.specs.Parameters.{parameterOf, withParameter}
-use Rattle.marching.specs.Step.{pointA, pointB, residualOf, newtonStep, allShifted, shiftedOf}
-use Rattle.marching.specs.Newton.{tenth, half, nearOf, trialStep, noTrial, trialsOf, lastTest, afterTrials, afterStep, roundOf, goingOn, roundStep, newtonOf, meetOf, meetInPlaneOf, landOf}
+use Rattle.meeting.specs.declared.step.Target.{Target}
+use Rattle.meeting.specs.declared.step.Target.the-variants.{Free, Plane, Pin}
+use Rattle.meeting.specs.declared.step.Residual.{Residual}
+use Rattle.meeting.specs.declared.step.Step.{Step}
+use Rattle.meeting.specs.declared.step.Step.the-variants as step
+use Rattle.meeting.specs.declared.newton.Met.{Met}
+use Rattle.meeting.specs.declared.newton.Met.the-variants.{At, Nothing}
+use Rattle.meeting.specs.declared.newton.Trial.{Trial}
+use Rattle.meeting.specs.declared.newton.Trial.the-variants as trial
+use Rattle.meeting.specs.declared.newton.Round.{Round}
+use Rattle.meeting.specs.declared.newton.Round.the-variants as round
+use Rattle.meeting.specs.Parameters.{parameterOf, withParameter}
+use Rattle.meeting.specs.Step.{pointA, pointB, residualOf, newtonStep, allShifted, shiftedOf}
+use Rattle.meeting.specs.Newton.{tenth, nearOf, trialStep, noTrial, trialsOf, lastTest, afterTrials, afterStep, roundOf, goingOn, roundStep, newtonOf, meetOf, meetInPlaneOf, landOf}
 use Rattle.good.specs.Good.{Good, windowAt}
 
 -- ---- a state of Newton's method holds the difference of the two points at its parameters, and what every move of them keeps

@@ -3,7 +3,7 @@ use mathlib.Core.List.{List, [], _∷_}
 use lib.Ieee.{Float}
 use Rattle.loops.specs.Loop.{pick}
 use Rattle.number.specs.Operators.{bits, _⊕_, _⊗_, _⊘_, _≤?_}
-use Rattle.number.specs.Helpers.{maxOf}
+use Rattle.number.specs.Helpers.{one, minPositive, maxOf}
 use Rattle.geometry.specs.declared.vector.Vector3D.{Vector3D}
 use Rattle.geometry.specs.declared.tolerance.Tolerance.{Tolerance}
 use Rattle.geometry.specs.Vector.{dotOf, crossOf, magnitudeOf, scaleOf}
@@ -11,22 +11,12 @@ use Rattle.patch.specs.declared.patch.Patch.{Patch}
 use Rattle.patch.specs.declared.patch.Parameters.{Parameters}
 use Rattle.analytic.specs.declared.analytic.Derivatives.{Derivatives}
 use Rattle.analytic.specs.Surface.{evalD1}
-use Rattle.solve.specs.declared.Solution2.{Solution2}
-use Rattle.solve.specs.declared.Solved2.{Solved2}
-use Rattle.solve.specs.declared.Solved2.the-variants.{Solution, Singular}
-use Rattle.solve.specs.Solve.{solve2Of}
+use Rattle.cramer.specs.declared.Solution2.{Solution2}
+use Rattle.cramer.specs.declared.Solved2.{Solved2}
+use Rattle.cramer.specs.declared.Solved2.the-variants.{Solution, Singular}
+use Rattle.cramer.specs.Cramer.{solverTol, solve2Of}
 use Rattle.marching.specs.declared.tangent.Direction.{Direction}
 use Rattle.marching.specs.declared.tangent.Direction.the-variants.{Along, Missing}
-
--- 1, 0, the smallest normal number, and the solvers' tol of 1e-12
-abbrev pub one : Float
-one = bits 0x3FF0_0000_0000_0000
-
-abbrev pub minPositive : Float
-minPositive = bits 0x0010_0000_0000_0000
-
-abbrev pub solverTol : Float
-solverTol = bits 0x3D71_9799_812D_EA11
 
 -- "the crosses being vector products of the derivatives"
 unfoldable pub normalOf : Patch → Float → Float → Vector3D
@@ -39,18 +29,21 @@ unitCross na nb angular =
     Missing
     (Along (scaleOf (crossOf na nb) (one ⊘ magnitudeOf (crossOf na nb))))
 
+-- `tangent` at x
 unfoldable pub tangentOf : Patch → Patch → Parameters → Tolerance → Direction
 tangentOf a b x tol = unitCross (normalOf a (x .u1) (x .v1)) (normalOf b (x .u2) (x .v2)) (tol .angular)
 
--- the two by two system of a displacement on one surface; nothing moves where the solver gives up
+-- `predict`: the two by two system of a displacement on one surface
 abbrev pub movedBy : Derivatives → Vector3D → Solved2
 movedBy s d =
     solve2Of ((dotOf (s .u) (s .u) ∷ dotOf (s .u) (s .v) ∷ []) ∷ (dotOf (s .u) (s .v) ∷ dotOf (s .v) (s .v) ∷ []) ∷ []) (dotOf (s .u) d ∷ dotOf (s .v) d ∷ []) solverTol
 
+-- nothing moves where the solver gives up
 abbrev pub orNothing : Solved2 → Solution2
 orNothing (Solution x) = x
 orNothing Singular = record { x0 = bits 0; x1 = bits 0 }
 
+-- how far u and v of one surface move
 unfoldable pub shiftOf : Patch → Float → Float → Vector3D → Solution2
 shiftOf p u v d = orNothing (movedBy (evalD1 (p .surface) u v) d)
 

@@ -1,10 +1,10 @@
 // `tangent` and `predict` of the Rust.
+use cramer::Solution2;
+use cramer::Solved2;
 use geometry::Tolerance;
 use geometry::Vector3D;
 use patch::Parameters;
 use patch::Patch;
-use solve::Solution2;
-use solve::Solved2;
 ghost use mathlib.Core.Path.{_≡_};
 ghost use Rattle.marching.specs.Tangent.{normalOf, unitCross, tangentOf, shiftOf, predictOf};
 
@@ -58,7 +58,7 @@ fn shift(patch: Patch, u: f64, v: f64, d: Vector3D) -> Solution2
     let uu = su.dot(su);
     let uv = su.dot(sv);
     let vv = sv.dot(sv);
-    let solved = solve::solve_2x2([[uu, uv], [uv, vv]], [su.dot(d), sv.dot(d)], 1e-12);
+    let solved = cramer::solve_2x2([[uu, uv], [uv, vv]], [su.dot(d), sv.dot(d)], 1e-12);
     match solved {
         Solved2::Solution(x) => x,
         Solved2::Singular => Solution2 { x0: 0.0, x1: 0.0 },

@@ -3,7 +3,19 @@ use Prim.Native.Nat.{ℕ}
 use mathlib.Core.Bool.{Bool, true, false, cond}
 use lib.Dec.{eqb}
 use lib.Ieee.{Float, nan, inf, fin, binary64, isNan, toBits}
-use Rattle.number.specs.Operators.{_<?_, _≤?_}
+use Rattle.number.specs.Operators.{bits, _<?_, _≤?_}
+
+-- the Rust's `1.0`
+abbrev pub one : Float
+one = bits 0x3FF0_0000_0000_0000
+
+-- the Rust's `0.5`, by which strides and trials shrink
+abbrev pub half : Float
+half = bits 0x3FE0_0000_0000_0000
+
+-- "smallest normal": 2^-1022, the Rust's `f64::MIN_POSITIVE`
+abbrev pub minPositive : Float
+minPositive = bits 0x0010_0000_0000_0000
 
 -- "Absolute value clears the sign bit"; a NaN stays a NaN
 unfoldable pub absOf : Float → Float
@@ -11,11 +23,12 @@ absOf nan = nan
 absOf (inf s) = inf false
 absOf (fin s m e) = fin false m e
 
--- "Maximum and minimum drop a NaN when the other is a number"; of two equal ones the first is given
+-- maximum: "drop a NaN when the other is a number"; of two equal ones the first is given
 unfoldable pub maxOf : Float → Float → Float
 unfolding isNan
 maxOf a b = cond (isNan a) b (cond (isNan b) a (cond (a <? b) b a))
 
+-- minimum: likewise
 unfoldable pub minOf : Float → Float → Float
 unfolding isNan
 minOf a b = cond (isNan a) b (cond (isNan b) a (cond (b <? a) b a))
@@ -27,6 +40,10 @@ clampOf x lo hi = cond (x <? lo) lo (cond (hi <? x) hi x)
 -- not "not finite, or above the limit in magnitude": false at a NaN, and at an infinity under a finite limit
 abbrev pub magnitudeAtMost : Float → Float → Bool
 magnitudeAtMost x limit = absOf x ≤? limit
+
+-- of a number under 1, 17 and 18: neither "not finite" nor "above 2^20 in magnitude"
+unfoldable pub numberFit : Float → Bool
+numberFit x = magnitudeAtMost x (bits 0x4130_0000_0000_0000)
 
 -- equal in bits, "All NaNs count as one": the logic has one NaN with one pattern, and -0 has another pattern than +0
 unfoldable pub sameBits : Float → Float → Bool

@@ -2,7 +2,7 @@
 ghost use mathlib.Core.Path.{_≡_};
 ghost use lib.Ieee.{binary64, toBits, ofBits};
 ghost use lib.Ieee.Scale.{finite};
-ghost use Rattle.number.specs.Helpers.{absOf, maxOf, minOf, clampOf, magnitudeAtMost, sameBits};
+ghost use Rattle.number.specs.Helpers.{absOf, maxOf, minOf, clampOf, magnitudeAtMost, numberFit, sameBits};
 
 // The smallest normal number, the Rust's `f64::MIN_POSITIVE`.
 pub const MIN_POSITIVE: f64 = 2.2250738585072014e-308;
@@ -96,6 +96,13 @@ pub fn magnitude_at_most(x: f64, limit: f64) -> bool
     ensures { λ r. ⌜ r ≡ magnitudeAtMost x limit ⌝ }
 {
     abs(x) <= limit
+}
+
+// Finite, and at most 2^20 in magnitude: what refusals 1, 17 and 18 let through.
+pub fn number_fit(x: f64) -> bool
+    ensures { λ r. ⌜ r ≡ numberFit x ⌝ }
+{
+    magnitude_at_most(x, 1048576.0)
 }
 
 // Equal in bits: -0 and +0 differ, and all NaNs are one.

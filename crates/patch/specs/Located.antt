@@ -18,5 +18,6 @@ abbrev pub afterFitness : Patch → Float → Float → Fitness → Located
 afterFitness p u v (Unfit r) = Refused r
 afterFitness p u v Fit = pick (finite u) (pick (finite v) (At (evalPoint (p .surface) u v)) (Refused Parameter)) (Refused Parameter)
 
+-- the public point: "Point: 1 to 4, then 6"
 unfoldable pub locatedOf : Patch → Float → Float → Located
 locatedOf p u v = afterFitness p u v (fitnessOf p)

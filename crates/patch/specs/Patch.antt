@@ -3,12 +3,12 @@ use mathlib.Core.Bool.{Bool, true, false, _&&_, cond}
 use lib.Ieee.{Float}
 use Rattle.loops.specs.Loop.{pick}
 use Rattle.number.specs.Operators.{bits, _<?_, _≤?_}
-use Rattle.number.specs.Helpers.{absOf, clampOf, magnitudeAtMost}
+use Rattle.number.specs.Helpers.{absOf, clampOf, numberFit}
 use Rattle.refusal.specs.declared.Refusal.the-variants.{Number, Size, TurnMark}
 use Rattle.refusal.specs.declared.Refusal.the-variants as Refusal
-use Rattle.geometry.specs.declared.point.Point3D.{Point3D}
 use Rattle.geometry.specs.declared.vector.Vector3D.{Vector3D}
 use Rattle.geometry.specs.declared.frame.Frame3D.{Frame3D}
+use Rattle.geometry.specs.Point.{pointFit}
 use Rattle.analytic.specs.declared.surface.Surface.{Surface}
 use Rattle.analytic.specs.declared.surface.Surface.the-variants.{Plane, Cylinder, Cone, Sphere, Torus}
 use Rattle.patch.specs.declared.patch.Window.{Window}
@@ -19,25 +19,23 @@ use Rattle.patch.specs.declared.patch.Fitness.the-variants.{Fit, Unfit}
 
 -- ---- 1: "a number of the frame or a size is not finite, or above 2^20 in magnitude"
 
-unfoldable pub numberFit : Float → Bool
-numberFit x = magnitudeAtMost x (bits 0x4130_0000_0000_0000)
-
-unfoldable pub pointFit : Point3D → Bool
-pointFit p = numberFit (p .x) && (numberFit (p .y) && numberFit (p .z))
-
+-- the three numbers of a direction
 unfoldable pub vectorFit : Vector3D → Bool
 vectorFit d = numberFit (d .x) && (numberFit (d .y) && numberFit (d .z))
 
+-- "a number of the frame": origin and three directions
 unfoldable pub frameFit : Frame3D → Bool
 frameFit f = pointFit (f .origin) && (vectorFit (f .x) && (vectorFit (f .y) && vectorFit (f .z)))
 
--- a frame with one size, and with two
+-- a frame with one size: cylinder, sphere
 unfoldable pub oneFits : Frame3D → Float → Bool
 oneFits f a = frameFit f && numberFit a
 
+-- a frame with two sizes: cone, torus
 unfoldable pub bothFit : Frame3D → Float → Float → Bool
 bothFit f a b = frameFit f && (numberFit a && numberFit b)
 
+-- what 1 lets through, for each kind
 unfoldable pub numbersFit : Surface → Bool
 numbersFit (Plane f) = frameFit f
 numbersFit (Cylinder f r) = oneFits f r
@@ -69,7 +67,7 @@ windowFit w = w .low ≤? w .high
 
 -- ---- 4: "a turn mark on a direction that is no angle"
 
--- "Angles are u of all but the plane, and v of torus."
+-- "Angles are u of all but the plane"
 unfoldable pub uIsAngle : Surface → Bool
 uIsAngle (Plane f) = false
 uIsAngle (Cylinder f r) = true
@@ -77,6 +75,7 @@ uIsAngle (Cone f r a) = true
 uIsAngle (Sphere f r) = true
 uIsAngle (Torus f maj min) = true
 
+-- "Angles are .. v of torus."
 unfoldable pub vIsAngle : Surface → Bool
 vIsAngle (Plane f) = false
 vIsAngle (Cylinder f r) = false
@@ -84,6 +83,7 @@ vIsAngle (Cone f r a) = false
 vIsAngle (Sphere f r) = false
 vIsAngle (Torus f maj min) = true
 
+-- a mark stands only on an angle
 unfoldable pub markFit : Bool → Bool → Bool
 markFit turn angle = pick turn angle true
 
@@ -108,6 +108,7 @@ fitnessOf p =
 unfoldable pub windowHolds : Window → Float → Bool
 windowHolds w x = pick (w .turn) true (w .low ≤? x && x ≤? w .high)
 
+-- "every parameter lie inside its window where that has no turn mark"
 unfoldable pub insideOf : Patch → Patch → Parameters → Bool
 insideOf a b x = windowHolds (a .u) (x .u1) && (windowHolds (a .v) (x .v1) && (windowHolds (b .u) (x .u2) && windowHolds (b .v) (x .v2)))
 
@@ -115,5 +116,6 @@ insideOf a b x = windowHolds (a .u) (x .u1) && (windowHolds (a .v) (x .v1) && (w
 unfoldable pub boundedOf : Window → Float → Float
 boundedOf w x = pick (w .turn) x (clampOf x (w .low) (w .high))
 
+-- "the guess is clamped to windows without turn mark"
 unfoldable pub withinBounds : Patch → Patch → Parameters → Parameters
 withinBounds a b x = record { u1 = boundedOf (a .u) (x .u1); v1 = boundedOf (a .v) (x .v1); u2 = boundedOf (b .u) (x .u2); v2 = boundedOf (b .v) (x .v2) }

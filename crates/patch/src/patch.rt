@@ -1,10 +1,9 @@
 use analytic::Surface;
 use geometry::Frame3D;
-use geometry::Point3D;
 use geometry::Vector3D;
 use refusal::Refusal;
 ghost use mathlib.Core.Path.{_≡_};
-ghost use Rattle.patch.specs.Patch.{numberFit, pointFit, vectorFit, frameFit, oneFits, bothFit, bothPositive, coneFits, numbersFit, sizesFit, uIsAngle, vIsAngle, windowFit, markFit, fitnessOf, windowHolds, insideOf, boundedOf, withinBounds};
+ghost use Rattle.patch.specs.Patch.{vectorFit, frameFit, oneFits, bothFit, bothPositive, coneFits, numbersFit, sizesFit, uIsAngle, vIsAngle, windowFit, markFit, fitnessOf, windowHolds, insideOf, boundedOf, withinBounds};
 
 // A parameter's window and turn mark. A marked parameter has a period: its window is tested by fitness and then not applied.
 pub struct Window {
@@ -34,33 +33,12 @@ pub enum Fitness {
     Unfit(Refusal),
 }
 
-// Finite, and at most 2^20 in magnitude.
-fn number_fit(x: f64) -> bool
-    ensures { λ r. ⌜ r ≡ numberFit x ⌝ }
-{
-    number::magnitude_at_most(x, 1048576.0)
-}
-
-fn point_fit(p: Point3D) -> bool
-    ensures { λ r. ⌜ r ≡ pointFit p ⌝ }
-{
-    if number_fit(p.x) {
-        if number_fit(p.y) {
-            number_fit(p.z)
-        } else {
-            false
-        }
-    } else {
-        false
-    }
-}
-
 fn vector_fit(d: Vector3D) -> bool
     ensures { λ r. ⌜ r ≡ vectorFit d ⌝ }
 {
-    if number_fit(d.x) {
-        if number_fit(d.y) {
-            number_fit(d.z)
+    if number::number_fit(d.x) {
+        if number::number_fit(d.y) {
+            number::number_fit(d.z)
         } else {
             false
         }
@@ -72,7 +50,8 @@ fn vector_fit(d: Vector3D) -> bool
 fn frame_fit(f: Frame3D) -> bool
     ensures { λ r. ⌜ r ≡ frameFit f ⌝ }
 {
-    if point_fit(f.origin) {
+    let origin = f.origin;
+    if origin.is_fit() {
         if vector_fit(f.x) {
             if vector_fit(f.y) {
                 vector_fit(f.z)
@@ -92,7 +71,11 @@ fn both_fit(f: Frame3D, a: f64, b: f64) -> bool
     ensures { λ r. ⌜ r ≡ bothFit f a b ⌝ }
 {
     if frame_fit(f) {
-        if number_fit(a) { number_fit(b) } else { false }
+        if number::number_fit(a) {
+            number::number_fit(b)
+        } else {
+            false
+        }
     } else {
         false
     }
@@ -102,7 +85,11 @@ fn both_fit(f: Frame3D, a: f64, b: f64) -> bool
 fn one_fits(f: Frame3D, a: f64) -> bool
     ensures { λ r. ⌜ r ≡ oneFits f a ⌝ }
 {
-    if frame_fit(f) { number_fit(a) } else { false }
+    if frame_fit(f) {
+        number::number_fit(a)
+    } else {
+        false
+    }
 }
 
 fn both_positive(a: f64, b: f64) -> bool

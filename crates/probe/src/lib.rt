@@ -29,14 +29,14 @@ pub extern "C" fn probe_solve_2x2(input: &[f64], output: &mut [f64]) -> u64
     let r1 = row2(input, 2);
     let b = row2(input, 4);
     let a = [r0, r1];
-    let solved = solve::solve_2x2(a, b, input[6]);
+    let solved = cramer::solve_2x2(a, b, input[6]);
     match solved {
-        solve::Solved2::Solution(x) => {
+        cramer::Solved2::Solution(x) => {
             output[0] = x.x0;
             output[1] = x.x1;
             1
         }
-        solve::Solved2::Singular => 0,
+        cramer::Solved2::Singular => 0,
     }
 }
 
@@ -115,5 +115,5 @@ pub extern "C" fn probe_solve_4x4(input: &[f64], output: &mut [f64]) -> u64
 pub extern "C" fn probe_atan(x: f64) -> f64
     ensures { λ r. ⌜ r ≡ atanOf x ⌝ }
 {
-    fdlibm::atan(x)
+    arctangent::atan(x)
 }

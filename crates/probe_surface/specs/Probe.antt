@@ -7,12 +7,9 @@ use lib.ListN.{length, getD, set}
 use lib.Ieee.{Float, nan}
 use Rattle.loops.specs.Loop.{pick}
 use Rattle.probe.specs.Probe.{Probed, probed}
+use Rattle.probe_call.specs.Call.{frameFrom}
 use Rattle.refusal.specs.Refusal.{numberOf}
 use Rattle.geometry.specs.declared.point.Point3D.{Point3D}
-use Rattle.geometry.specs.declared.vector.Vector3D.{Vector3D}
-use Rattle.geometry.specs.declared.frame.Frame3D.{Frame3D}
-use Rattle.geometry.specs.Point.{pointOf}
-use Rattle.geometry.specs.Vector.{vectorOf}
 use Rattle.analytic.specs.declared.surface.Surface.{Surface}
 use Rattle.analytic.specs.declared.surface.Surface.the-variants.{Plane, Cylinder, Cone, Sphere, Torus}
 use Rattle.analytic.specs.declared.analytic.Derivatives.{Derivatives}
@@ -25,24 +22,14 @@ use Rattle.patch.specs.Located.{locatedOf}
 
 -- ---- what the numbers mean: origin, x, y and z direction, two sizes, then low and high of u and of v
 
--- three numbers from at on
-unfoldable pub pointFrom : List Float → ℕ → Point3D
-pointFrom s at = pointOf (getD s at nan) (getD s (at + 1) nan) (getD s (at + 2) nan)
-
-unfoldable pub directionFrom : List Float → ℕ → Vector3D
-directionFrom s at = vectorOf (getD s at nan) (getD s (at + 1) nan) (getD s (at + 2) nan)
-
-unfoldable pub frameFrom : List Float → Frame3D
-frameFrom s = record { origin = pointFrom s 0; x = directionFrom s 3; y = directionFrom s 6; z = directionFrom s 9 }
-
 -- the job file's kinds: 0 plane, 1 cylinder, 2 cone, 3 sphere, 4 torus; used sizes come first
 unfoldable pub surfaceFrom : ℕ → List Float → Surface
 surfaceFrom kind s =
-    pick (eqb kind 0) (Plane (frameFrom s))
-    (pick (eqb kind 1) (Cylinder (frameFrom s) (getD s 12 nan))
-    (pick (eqb kind 2) (Cone (frameFrom s) (getD s 12 nan) (getD s 13 nan))
-    (pick (eqb kind 3) (Sphere (frameFrom s) (getD s 12 nan))
-    (Torus (frameFrom s) (getD s 12 nan) (getD s 13 nan)))))
+    pick (eqb kind 0) (Plane (frameFrom s 0))
+    (pick (eqb kind 1) (Cylinder (frameFrom s 0) (getD s 12 nan))
+    (pick (eqb kind 2) (Cone (frameFrom s 0) (getD s 12 nan) (getD s 13 nan))
+    (pick (eqb kind 3) (Sphere (frameFrom s 0) (getD s 12 nan))
+    (Torus (frameFrom s 0) (getD s 12 nan) (getD s 13 nan)))))
 
 -- the job file's marks: "1 for u, 2 for v, added"
 unfoldable pub marked : ℕ → ℕ → Bool

@@ -3,48 +3,21 @@
 //! The numbers: origin, x, y and z direction, two sizes (used ones first), and for a patch low and high of u, then of v. Kinds and marks
 //! are the job file's. Where the answer is not a point or a pair of derivatives, the output is as it was.
 use analytic::Surface;
-use geometry::Frame3D;
-use geometry::Point3D;
-use geometry::Vector3D;
 use patch::Located;
 use patch::Patch;
 use patch::Window;
+use probe_call::frame;
 ghost use mathlib.Core.Path.{_≡_};
 ghost use Prim.Native.Nat.{_+_, _≤_};
 ghost use lib.ListN.{length};
 ghost use Rattle.probe.specs.Probe.{probed};
-ghost use Rattle.probe_surface.specs.Probe.{pointFrom, directionFrom, frameFrom, surfaceFrom, marked, windowFrom, patchFrom, put3, probePoint, probeDerivatives, probeLocated};
-
-fn point(numbers: &[f64], at: usize) -> Point3D
-    requires { ⌜ at + 3 ≤ length (now numbers) ⌝ }
-    ensures { λ r. ⌜ r ≡ pointFrom (now (numbers .entry)) at ⌝ }
-{
-    Point3D::new(numbers[at], numbers[at + 1], numbers[at + 2])
-}
-
-fn direction(numbers: &[f64], at: usize) -> Vector3D
-    requires { ⌜ at + 3 ≤ length (now numbers) ⌝ }
-    ensures { λ r. ⌜ r ≡ directionFrom (now (numbers .entry)) at ⌝ }
-{
-    Vector3D::new(numbers[at], numbers[at + 1], numbers[at + 2])
-}
-
-fn frame(numbers: &[f64]) -> Frame3D
-    requires { ⌜ 12 ≤ length (now numbers) ⌝ }
-    ensures { λ r. ⌜ r ≡ frameFrom (now (numbers .entry)) ⌝ }
-{
-    let origin = point(numbers, 0);
-    let x = direction(numbers, 3);
-    let y = direction(numbers, 6);
-    let z = direction(numbers, 9);
-    Frame3D { origin, x, y, z }
-}
+ghost use Rattle.probe_surface.specs.Probe.{surfaceFrom, marked, windowFrom, patchFrom, put3, probePoint, probeDerivatives, probeLocated};
 
 fn surface(kind: u64, numbers: &[f64]) -> Surface
     requires { ⌜ 14 ≤ length (now numbers) ⌝ }
     ensures { λ r. ⌜ r ≡ surfaceFrom kind (now (numbers .entry)) ⌝ }
 {
-    let f = frame(numbers);
+    let f = frame(numbers, 0);
     let a = numbers[12];
     let b = numbers[13];
     if kind == 0 {

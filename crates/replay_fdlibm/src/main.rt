@@ -54,8 +54,8 @@ fn step(t: Tallies, record: &[u8]) -> Tallies {
         sines: inside(sines, sine, replay::word(record, 16)),
         cosines: inside(cosines, cosine, replay::word(record, 24)),
         beyond: outside(after, cosine, replay::word(record, 24)),
-        arcs: inside(arcs, fdlibm::atan(x), replay::word(record, 32)),
-        angles: inside(angles, fdlibm::atan2(y, x), replay::word(record, 40)),
+        arcs: inside(arcs, arctangent::atan(x), replay::word(record, 32)),
+        angles: inside(angles, arctangent::atan2(y, x), replay::word(record, 40)),
     }
 }
 

@@ -8,8 +8,8 @@ use lib.Ieee.{Float, nan}
 use Rattle.loops.specs.Loop.{pick, on, out}
 use Rattle.number.specs.Operators.{_⊖_, _⊗_, _⊘_, _<?_}
 use Rattle.number.specs.Helpers.{absOf}
-use Rattle.solve.specs.Solve.{system, cell, better, factorOf, lessOf, clearRow, restOf, backRow, pivotOf, swapOf, clearedOf, column, givesUp, singular, determinantOf, scale2Of, cramerOf, solve2Of}
-use Rattle.solve.specs.declared.Solved2.the-variants.{Solution, Singular}
+use Rattle.cramer.specs.Cramer.{cell, givesUp}
+use Rattle.solve.specs.Solve.{system, better, factorOf, lessOf, clearRow, restOf, backRow, pivotOf, swapOf, clearedOf, column, singular}
 
 -- the better of two rows is a row
 pub better-below : (n : ℕ) (m : List (List Float)) (col row pivot : ℕ) {r : ℕ} → r ≡ better m col row pivot → row < n → pivot < n → r < n
@@ -58,10 +58,3 @@ module _
     -- the loop is left
     pub column-out : t ≡ true → column n tol scale col (system m b) ≡ out singular
     column-out h = at-pivot h
-
--- what `solve_2x2` answers by its test
-pub at-determinant : (a : List (List Float)) (b : List Float) (tol : Float) {det scale : Float} {t u : Bool}
-    → det ≡ determinantOf a → scale ≡ scale2Of a → t ≡ givesUp det tol scale → t ≡ u
-    → pick u Singular (Solution (cramerOf a b det)) ≡ solve2Of a b tol
-unfolding solve2Of
-at-determinant a b tol ed es et eu = rw (← eu, et, es, ed)

@@ -6,18 +6,12 @@ use lib.ListN.{getD, set, replicate}
 use lib.Ieee.{Float, nan}
 use Rattle.loops.specs.Loop.{pick, ranged, Flow, on, out, searched}
 use Rattle.number.specs.Operators.{_⊕_, _⊖_, _⊗_, _⊘_, _<?_, _≤?_, bits}
-use Rattle.number.specs.Helpers.{absOf, maxOf}
-use Rattle.solve.specs.declared.Solution2.{Solution2}
-use Rattle.solve.specs.declared.Solved2.{Solved2}
+use Rattle.number.specs.Helpers.{absOf}
+use Rattle.cramer.specs.Cramer.{cell, givesUp}
 use Rattle.solve.specs.declared.Solved3.{Solved3}
 use Rattle.solve.specs.declared.Solved4.{Solved4}
-use Rattle.solve.specs.declared.Solved2.the-variants as solved2
 use Rattle.solve.specs.declared.Solved3.the-variants as solved3
 use Rattle.solve.specs.declared.Solved4.the-variants as solved4
-
--- the entry in row r and column c
-abbrev pub cell : List (List Float) → ℕ → ℕ → Float
-cell m r c = getD (getD m r []) c nan
 
 -- one entry's magnitude added to the sum
 abbrev pub addMagnitude : List Float → ℕ → Float → Float
@@ -87,10 +81,6 @@ clearedOf n col s = ranged (clearRow n col) (col + 1) n s
 abbrev pub swappedOf : ℕ → ℕ → System → System
 swappedOf n col s = system (swapOf [] (s .rows) col (pivotOf n (s .rows) col)) (swapOf nan (s .right) col (pivotOf n (s .rows) col))
 
--- "gives up when it is at most tol times max(sum of magnitudes, smallest normal)"; a NaN is not at most
-abbrev pub givesUp : Float → Float → Float → Bool
-givesUp pivot tol scale = absOf pivot ≤? tol ⊗ maxOf scale (bits 0x0010_0000_0000_0000)
-
 -- `acc -= m[row][k] * x[k]`
 abbrev pub lessProduct : List Float → List Float → ℕ → Float → Float
 lessProduct row x k acc = acc ⊖ getD row k nan ⊗ getD x k nan
@@ -140,27 +130,6 @@ abbrev pub answer4 : Answer → Solved4
 answer4 (solution x) =
     solved4.Solution (record { x0 = getD x 0 nan; x1 = getD x 1 nan; x2 = getD x 2 nan; x3 = getD x 3 nan })
 answer4 singular = solved4.Singular
-
--- the Rust's `det`
-abbrev pub determinantOf : List (List Float) → Float
-determinantOf a = cell a 0 0 ⊗ cell a 1 1 ⊖ cell a 0 1 ⊗ cell a 1 0
-
--- the Rust's `scale` in `solve_2x2`
-abbrev pub scale2Of : List (List Float) → Float
-scale2Of a = absOf (cell a 0 0) ⊗ absOf (cell a 1 1) ⊕ absOf (cell a 0 1) ⊗ absOf (cell a 1 0)
-
--- the solution by Cramer's rule
-abbrev pub cramerOf : List (List Float) → List Float → Float → Solution2
-cramerOf a b det =
-    record {
-      x0 = (getD b 0 nan ⊗ cell a 1 1 ⊖ getD b 1 nan ⊗ cell a 0 1) ⊘ det;
-      x1 = (cell a 0 0 ⊗ getD b 1 nan ⊖ cell a 1 0 ⊗ getD b 0 nan) ⊘ det;
-    }
-
--- `solve_2x2`: "has its own test", of the determinant
-unfoldable pub solve2Of : List (List Float) → List Float → Float → Solved2
-solve2Of a b tol =
-    pick (givesUp (determinantOf a) tol (scale2Of a)) solved2.Singular (solved2.Solution (cramerOf a b (determinantOf a)))
 
 -- `solve_3x3`
 unfoldable pub solve3Of : List (List Float) → List Float → Float → Solved3

@@ -1,4 +1,4 @@
-//! Small linear systems of 2, 3 and 4 unknowns: the square solvers of the Rust's `math/solve.rs`.
+//! Small linear systems of 3 and 4 unknowns: `solve_square` of the Rust's `math/solve.rs`. Its `solve_2x2` is the crate `cramer`.
 //!
 //! Each solver answers for every input, NaNs and infinities too, and its answer is the one that `specs/Solve.antt` computes.
 //! Rattle has no const generics: what works on one row or on the right side takes a slice and serves both sizes, and what
@@ -8,12 +8,7 @@ ghost use mathlib.Core.List.{[]};
 ghost use lib.Ieee.{nan};
 ghost use lib.ListN.{length};
 ghost use Prim.Native.Nat.{_<_, _≤_};
-ghost use Rattle.solve.specs.Solve.{givesUp, determinantOf, scale2Of, cramerOf, solve2Of, solve3Of, solve4Of, magnitudesOf, scaleOf, greaterOf, pivotOf, swapOf, lessOf, system, clearedOf, restOf, backOf};
-
-pub struct Solution2 {
-    pub x0: f64,
-    pub x1: f64,
-}
+ghost use Rattle.solve.specs.Solve.{solve3Of, solve4Of, magnitudesOf, scaleOf, greaterOf, pivotOf, swapOf, lessOf, system, clearedOf, restOf, backOf};
 
 pub struct Solution3 {
     pub x0: f64,
@@ -28,11 +23,6 @@ pub struct Solution4 {
     pub x3: f64,
 }
 
-pub enum Solved2 {
-    Solution(Solution2),
-    Singular,
-}
-
 pub enum Solved3 {
     Solution(Solution3),
     Singular,
@@ -41,13 +31,6 @@ pub enum Solved3 {
 pub enum Solved4 {
     Solution(Solution4),
     Singular,
-}
-
-// Whether a pivot, or a determinant, is at most tol times the scale in magnitude. A NaN isn't; a NaN scale is as the smallest normal.
-fn gives_up(pivot: f64, tol: f64, scale: f64) -> bool
-    ensures { λ r. ⌜ r ≡ givesUp pivot tol scale ⌝ }
-{
-    number::abs(pivot) <= tol * number::max(scale, number::MIN_POSITIVE)
 }
 
 // The sum, to which the magnitudes of the row's first n entries are added in order.
@@ -93,40 +76,6 @@ fn rest(row: &[f64], x: &[f64], n: usize, from: usize, acc: f64) -> f64
         acc = acc - row[k] * x[k];
     }
     acc
-}
-
-fn determinant(a: [[f64; 2]; 2]) -> f64
-    ensures { λ r. ⌜ r ≡ determinantOf a ⌝ }
-{
-    a[0][0] * a[1][1] - a[0][1] * a[1][0]
-}
-
-// What the determinant is measured against: its two products, of magnitudes and added.
-fn scale2(a: [[f64; 2]; 2]) -> f64
-    ensures { λ r. ⌜ r ≡ scale2Of a ⌝ }
-{
-    number::abs(a[0][0]) * number::abs(a[1][1]) + number::abs(a[0][1]) * number::abs(a[1][0])
-}
-
-// Cramer's rule, with the determinant at hand.
-fn cramer(a: [[f64; 2]; 2], b: [f64; 2], det: f64) -> Solution2
-    ensures { λ r. ⌜ r ≡ cramerOf a b det ⌝ }
-{
-    Solution2 {
-        x0: (b[0] * a[1][1] - b[1] * a[0][1]) / det,
-        x1: (a[0][0] * b[1] - a[1][0] * b[0]) / det,
-    }
-}
-
-// The 2 by 2 system a x = b, or Singular where the determinant is at most tol times its scale.
-pub fn solve_2x2(a: [[f64; 2]; 2], b: [f64; 2], tol: f64) -> Solved2
-    ensures { λ r. ⌜ r ≡ solve2Of a b tol ⌝ }
-{
-    let det = determinant(a);
-    if gives_up(det, tol, scale2(a)) {
-        return Solved2::Singular;
-    }
-    Solved2::Solution(cramer(a, b, det))
 }
 
 // The functions on slices, at rows of three by value: their lengths come with their type.
@@ -236,7 +185,7 @@ pub fn solve_3x3(a: [[f64; 3]; 3], b: [f64; 3], tol: f64) -> Solved3
         let pivot = pivot3(m, col);
         let rows = swap_rows3(m, col, pivot);
         let mut right = swap3(b, col, pivot);
-        if gives_up(rows[col][col], tol, scale) {
+        if cramer::gives_up(rows[col][col], tol, scale) {
             return Solved3::Singular;
         }
         let cleared = eliminate3(rows, &mut right, col);
@@ -353,7 +302,7 @@ pub fn solve_4x4(a: [[f64; 4]; 4], b: [f64; 4], tol: f64) -> Solved4
         let pivot = pivot4(m, col);
         let rows = swap_rows4(m, col, pivot);
         let mut right = swap4(b, col, pivot);
-        if gives_up(rows[col][col], tol, scale) {
+        if cramer::gives_up(rows[col][col], tol, scale) {
             return Solved4::Singular;
         }
         let cleared = eliminate4(rows, &mut right, col);

@@ -15,6 +15,7 @@ use Rattle.loops.specs.Loop.{Flow, on, out}
 use Rattle.loops.proofs.Loop.{searched-again, searched-leave, searched-done}
 use Rattle.number.specs.Operators.{_⊗_, _≤?_}
 use Rattle.number.specs.Units.{unit, mag, neg?}
+use Rattle.number.specs.Helpers.{half}
 use Rattle.number.proofs.Values.{Is, is-own, whole}
 use Rattle.number.proofs.Order.{le-through, le→units}
 use Rattle.number.proofs.Scaling.{half-exact}
@@ -28,7 +29,7 @@ use Rattle.stride.specs.declared.attempt.Tried.the-variants as tried
 use Rattle.stride.specs.declared.shorten.Stride.{Stride}
 use Rattle.stride.specs.declared.shorten.Stride.the-variants as stride
 use Rattle.stride.specs.Attempt.{attemptOf}
-use Rattle.stride.specs.Shorten.{longestStride, half, strideStep, noStride, strideFrom, halvingOf}
+use Rattle.stride.specs.Shorten.{longestStride, strideStep, noStride, strideFrom, halvingOf}
 
 -- ---- a number between a fit confusion and 0.1
 

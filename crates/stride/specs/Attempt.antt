@@ -4,7 +4,7 @@ use Prim.Native.Nat.{ℕ}
 use lib.Ieee.{Float}
 use Rattle.loops.specs.Loop.{pick}
 use Rattle.number.specs.Operators.{bits, _⊗_, _⊘_, _<?_, _≤?_}
-use Rattle.number.specs.Helpers.{maxOf}
+use Rattle.number.specs.Helpers.{minPositive, maxOf}
 use Rattle.fdlibm.specs.Arctangent.{atan2Of}
 use Rattle.geometry.specs.declared.vector.Vector3D.{Vector3D}
 use Rattle.geometry.specs.declared.point.Point3D.{Point3D}
@@ -13,16 +13,16 @@ use Rattle.geometry.specs.Vector.{dotOf, crossOf, magnitudeOf, scaleOf}
 use Rattle.geometry.specs.Point.{distanceOf, addVectorOf, fromOf}
 use Rattle.patch.specs.declared.patch.Patch.{Patch}
 use Rattle.patch.specs.declared.patch.Parameters.{Parameters}
-use Rattle.marching.specs.declared.newton.Met.{Met}
-use Rattle.marching.specs.declared.newton.Met.the-variants as met
+use Rattle.meeting.specs.declared.newton.Met.{Met}
+use Rattle.meeting.specs.declared.newton.Met.the-variants as met
 use Rattle.marching.specs.declared.tangent.Direction.{Direction}
 use Rattle.marching.specs.declared.tangent.Direction.the-variants as direction
 use Rattle.marching.specs.declared.leaving.Exit.{Exit}
 use Rattle.marching.specs.declared.leaving.Exit.the-variants as exit
-use Rattle.marching.specs.Tangent.{minPositive, tangentOf, predictOf}
+use Rattle.marching.specs.Tangent.{tangentOf, predictOf}
 use Rattle.marching.specs.Leaving.{leavingOf}
-use Rattle.marching.specs.Step.{pointA}
-use Rattle.marching.specs.Newton.{meetInPlaneOf, landOf}
+use Rattle.meeting.specs.Step.{pointA}
+use Rattle.meeting.specs.Newton.{meetInPlaneOf, landOf}
 use Rattle.stride.specs.declared.attempt.Walker.{Walker}
 use Rattle.stride.specs.declared.attempt.Tried.{Tried}
 use Rattle.stride.specs.declared.attempt.Tried.the-variants.{Inner, Edge, Nothing}

@@ -3,6 +3,7 @@ use Prim.Native.Nat.{ℕ}
 use lib.Ieee.{Float}
 use Rattle.loops.specs.Loop.{pick, Flow, on, out, searched}
 use Rattle.number.specs.Operators.{bits, _⊗_, _≤?_}
+use Rattle.number.specs.Helpers.{half}
 use Rattle.geometry.specs.declared.tolerance.Tolerance.{Tolerance}
 use Rattle.geometry.specs.Tolerance.{toleranceFit}
 use Rattle.patch.specs.declared.patch.Patch.{Patch}
@@ -13,12 +14,9 @@ use Rattle.stride.specs.declared.shorten.Stride.{Stride}
 use Rattle.stride.specs.declared.shorten.Stride.the-variants as stride
 use Rattle.stride.specs.Attempt.{attemptOf}
 
--- "longest stride 0.1", and a half
+-- "longest stride 0.1"
 abbrev pub longestStride : Float
 longestStride = bits 0x3FB9_9999_9999_999A
-
-abbrev pub half : Float
-half = bits 0x3FE0_0000_0000_0000
 
 -- what an attempt at the stride h says
 abbrev pub afterAttempt : Float → Tried → Flow Float Stride

@@ -4,12 +4,12 @@ use geometry::Tolerance;
 use geometry::Vector3D;
 use marching::Direction;
 use marching::Exit;
-use marching::Met;
 use marching::leaving::leaving;
-use marching::newton::land;
-use marching::newton::meet_in_plane;
 use marching::tangent::predict;
 use marching::tangent::tangent;
+use meeting::Met;
+use meeting::newton::land;
+use meeting::newton::meet_in_plane;
 use patch::Parameters;
 use patch::Patch;
 ghost use mathlib.Core.Path.{_≡_};
@@ -85,7 +85,7 @@ fn landed(
 fn turn(t: Vector3D, ty: Vector3D) -> f64
     ensures { λ r. ⌜ r ≡ turnOf t ty ⌝ }
 {
-    fdlibm::atan2(t.cross(ty).magnitude(), t.dot(ty))
+    arctangent::atan2(t.cross(ty).magnitude(), t.dot(ty))
 }
 
 // Whether the step stays near the curve (its chord times its turn is at most 32 chord deviations) and on this branch (it turns by at

@@ -10,7 +10,7 @@ use lib.Ieee.Fits.{and-l, and-r}
 use Rattle.loops.specs.Loop.{pick, Flow, on, out}
 use Rattle.loops.proofs.Loop.{Kept, searched-keeps}
 use Rattle.number.specs.Operators.{bits, _⊗_, _⊘_, _<?_, _≤?_}
-use Rattle.number.specs.Helpers.{maxOf}
+use Rattle.number.specs.Helpers.{maxOf, minPositive}
 use Rattle.geometry.specs.declared.point.Point3D.{Point3D}
 use Rattle.geometry.specs.declared.vector.Vector3D.{Vector3D}
 use Rattle.geometry.specs.declared.tolerance.Tolerance.{Tolerance}
@@ -19,16 +19,16 @@ use Rattle.geometry.specs.Vector.{dotOf, scaleOf}
 use Rattle.geometry.specs.Point.{distanceOf, fromOf, addVectorOf}
 use Rattle.patch.specs.declared.patch.Patch.{Patch}
 use Rattle.patch.specs.declared.patch.Parameters.{Parameters}
-use Rattle.marching.specs.declared.newton.Met.{Met}
-use Rattle.marching.specs.declared.newton.Met.the-variants as met
+use Rattle.meeting.specs.declared.newton.Met.{Met}
+use Rattle.meeting.specs.declared.newton.Met.the-variants as met
 use Rattle.marching.specs.declared.tangent.Direction.{Direction}
 use Rattle.marching.specs.declared.tangent.Direction.the-variants as direction
 use Rattle.marching.specs.declared.leaving.Exit.{Exit}
 use Rattle.marching.specs.declared.leaving.Exit.the-variants as exit
-use Rattle.marching.specs.Tangent.{minPositive, tangentOf}
+use Rattle.marching.specs.Tangent.{tangentOf}
 use Rattle.marching.specs.Leaving.{leavingOf}
-use Rattle.marching.specs.Step.{pointA}
-use Rattle.marching.specs.Newton.{meetInPlaneOf, landOf}
+use Rattle.meeting.specs.Step.{pointA}
+use Rattle.meeting.specs.Newton.{meetInPlaneOf, landOf}
 use Rattle.good.specs.Good.{Good}
 use Rattle.good.proofs.Good.{meet-in-plane-good, land-good}
 use Rattle.stride.specs.declared.attempt.Walker.{Walker}

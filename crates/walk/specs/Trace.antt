@@ -19,12 +19,12 @@ use Rattle.patch.specs.declared.patch.Parameters.{Parameters}
 use Rattle.patch.specs.declared.patch.Fitness.{Fitness}
 use Rattle.patch.specs.declared.patch.Fitness.the-variants.{Fit, Unfit}
 use Rattle.patch.specs.Patch.{fitnessOf}
-use Rattle.marching.specs.declared.newton.Met.{Met}
-use Rattle.marching.specs.declared.newton.Met.the-variants as met
+use Rattle.meeting.specs.declared.newton.Met.{Met}
+use Rattle.meeting.specs.declared.newton.Met.the-variants as met
 use Rattle.marching.specs.declared.tangent.Direction.{Direction}
 use Rattle.marching.specs.declared.tangent.Direction.the-variants as direction
 use Rattle.marching.specs.Tangent.{tangentOf}
-use Rattle.marching.specs.Newton.{meetOf}
+use Rattle.meeting.specs.Newton.{meetOf}
 use Rattle.walk.specs.Lent.{rowsOf}
 use Rattle.walk.specs.Line.{lineOf}
 use Rattle.walk.specs.Line as line

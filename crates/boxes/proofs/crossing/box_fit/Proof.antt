@@ -4,26 +4,26 @@ use Rattle.boxes.specs.Crossing.{boxFit}
 use Rattle.boxes.proofs.crossing.box_fit.Statement.{statement}
 use Rattle.boxes.proofs.crossing.box_fit.Tie as tie
 
-point-fit-requires : tie.Need-point-fit-requires
-point-fit-requires c κs = search needs
+is-fit-requires : tie.Need-is-fit-requires
+is-fit-requires c κs = search needs
 
-point-fit-requires-2 : tie.Need-point-fit-requires-2
-point-fit-requires-2 c κs = search needs
+is-fit-requires-2 : tie.Need-is-fit-requires-2
+is-fit-requires-2 c κs = search needs
 
 sides-fit-requires : tie.Need-sides-fit-requires
 sides-fit-requires c κs = search needs
 
 returns : tie.Need-returns
 unfolding boxFit
-returns c = rw (← c .before .before .before .before .point-fit .ensures, c .before .before .before .if1 .taken, ← c .before .before .point-fit2 .ensures, c .before .if2 .taken, ← c .sides-fit .ensures)
+returns c = rw (← c .before .before .before .before .is-fit .ensures, c .before .before .before .if1 .taken, ← c .before .before .is-fit2 .ensures, c .before .if2 .taken, ← c .sides-fit .ensures)
 
 returns-2 : tie.Need-returns-2
 unfolding boxFit
-returns-2 c = rw (← c .before .before .before .point-fit .ensures, c .before .before .if1 .taken, ← c .before .point-fit2 .ensures, c .if2 .left)
+returns-2 c = rw (← c .before .before .before .is-fit .ensures, c .before .before .if1 .taken, ← c .before .is-fit2 .ensures, c .if2 .left)
 
 returns-3 : tie.Need-returns-3
 unfolding boxFit
-returns-3 c = rw (← c .before .point-fit .ensures, c .if1 .left)
+returns-3 c = rw (← c .before .is-fit .ensures, c .if1 .left)
 
 pub box-fit-spec : {M : Type 1} → statement M
-box-fit-spec = tie.close (tie.spec point-fit-requires point-fit-requires-2 sides-fit-requires returns returns-2 returns-3)
+box-fit-spec = tie.close (tie.spec is-fit-requires is-fit-requires-2 sides-fit-requires returns returns-2 returns-3)

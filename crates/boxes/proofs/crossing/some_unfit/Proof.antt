@@ -24,14 +24,14 @@ loop-holds c = (refl, omega arith)
 point-at-requires : tie.Need-point-at-requires Inv-loop μ-loop
 point-at-requires c κs = search needs
 
-point-fit-requires : tie.Need-point-fit-requires Inv-loop μ-loop
-point-fit-requires c κs = search needs
+is-fit-requires : tie.Need-is-fit-requires Inv-loop μ-loop
+is-fit-requires c κs = search needs
 
 returns : tie.Need-returns Inv-loop μ-loop
 returns c =
     let p = c .before .before .before .before in
     let g = p .before .before .args in
-    let e = unfit-turn (now (g .points)) (p .loop .i) (c .before .before .point-at .ensures) (c .before .point-fit .ensures) in
+    let e = unfit-turn (now (g .points)) (p .loop .i) (c .before .before .point-at .ensures) (c .before .is-fit .ensures) in
     some-leave (unfitAt (now (g .points))) (p .loop .i) (g .count) (c .before .before .before .loop-test .taken) (e ∙ c .if1 .taken) (p .loop .inv .0)
 
 add-i : tie.Need-add-i Inv-loop μ-loop
@@ -44,7 +44,7 @@ loop-again : tie.Need-loop-again Inv-loop μ-loop
 loop-again c =
     let p = c .before .before .before .before in
     let g = p .before .before .args in
-    let e = unfit-turn (now (g .points)) (p .loop .i) (c .before .before .point-at .ensures) (c .before .point-fit .ensures) in
+    let e = unfit-turn (now (g .points)) (p .loop .i) (c .before .before .point-at .ensures) (c .before .is-fit .ensures) in
     (some-again (unfitAt (now (g .points))) (p .loop .i) (g .count) (c .before .before .before .loop-test .taken) (e ∙ c .if1 .left) (p .loop .inv .0), omega arith)
 
 returns-2 : tie.Need-returns-2 Inv-loop μ-loop
@@ -60,7 +60,7 @@ some-unfit-spec =
     μ-loop
     loop-holds
     point-at-requires
-    point-fit-requires
+    is-fit-requires
     returns
     add-i
     loop-less

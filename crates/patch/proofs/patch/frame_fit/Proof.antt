@@ -4,8 +4,8 @@ use Rattle.patch.specs.Patch.{frameFit}
 use Rattle.patch.proofs.patch.frame_fit.Statement.{statement}
 use Rattle.patch.proofs.patch.frame_fit.Tie as tie
 
-point-fit-requires : tie.Need-point-fit-requires
-point-fit-requires c κs = search needs
+is-fit-requires : tie.Need-is-fit-requires
+is-fit-requires c κs = search needs
 
 vector-fit-requires : tie.Need-vector-fit-requires
 vector-fit-requires c κs = search needs
@@ -18,19 +18,19 @@ vector-fit-requires-3 c κs = search needs
 
 returns : tie.Need-returns
 unfolding frameFit
-returns c = rw (← c .before .before .before .before .before .before .point-fit .ensures, c .before .before .before .before .before .if1 .taken, ← c .before .before .before .before .vector-fit .ensures, c .before .before .before .if2 .taken, ← c .before .before .vector-fit2 .ensures, c .before .if3 .taken, ← c .vector-fit3 .ensures)
+returns c = rw (← c .before .before .before .before .before .before .is-fit .ensures, c .before .before .before .before .before .if1 .taken, ← c .before .before .before .before .vector-fit .ensures, c .before .before .before .if2 .taken, ← c .before .before .vector-fit2 .ensures, c .before .if3 .taken, ← c .vector-fit3 .ensures)
 
 returns-2 : tie.Need-returns-2
 unfolding frameFit
-returns-2 c = rw (← c .before .before .before .before .before .point-fit .ensures, c .before .before .before .before .if1 .taken, ← c .before .before .before .vector-fit .ensures, c .before .before .if2 .taken, ← c .before .vector-fit2 .ensures, c .if3 .left)
+returns-2 c = rw (← c .before .before .before .before .before .is-fit .ensures, c .before .before .before .before .if1 .taken, ← c .before .before .before .vector-fit .ensures, c .before .before .if2 .taken, ← c .before .vector-fit2 .ensures, c .if3 .left)
 
 returns-3 : tie.Need-returns-3
 unfolding frameFit
-returns-3 c = rw (← c .before .before .before .point-fit .ensures, c .before .before .if1 .taken, ← c .before .vector-fit .ensures, c .if2 .left)
+returns-3 c = rw (← c .before .before .before .is-fit .ensures, c .before .before .if1 .taken, ← c .before .vector-fit .ensures, c .if2 .left)
 
 returns-4 : tie.Need-returns-4
 unfolding frameFit
-returns-4 c = rw (← c .before .point-fit .ensures, c .if1 .left)
+returns-4 c = rw (← c .before .is-fit .ensures, c .if1 .left)
 
 pub frame-fit-spec : {M : Type 1} → statement M
-frame-fit-spec = tie.close (tie.spec point-fit-requires vector-fit-requires vector-fit-requires-2 vector-fit-requires-3 returns returns-2 returns-3 returns-4)
+frame-fit-spec = tie.close (tie.spec is-fit-requires vector-fit-requires vector-fit-requires-2 vector-fit-requires-3 returns returns-2 returns-3 returns-4)

@@ -49,7 +49,14 @@ put-requires c κs =
     fits (g .a) (g .b) (g .tol) (g .dir) (g .x) (g .p) (g .n) (q .before .before .first-walker .result) (q .before .first-stride .result) (st .pre .0) (now (g .out)) (q .loop .out) (q .loop .w) (q .loop .h) (q .loop .count) (q .loop .counter) v (st .pre .1 .1) _ refl (omega (arith, c .before .before .before .before .before .before .loop-test .taken)) (c .before .before .before .before .before .step .ensures)
 
 add-count : tie.Need-add-count Inv-loop μ-loop
-add-count c = search needs
+add-count c =
+    let q = c .before .before .before .before .before .before .before .before .before .before in
+    let st = q .before .before .before .before in
+    let g = st .args in
+    let v = q .loop .inv in
+    let f = few-held (g .a) (g .b) (g .tol) (g .dir) (g .x) (g .p) (g .n) (q .before .before .first-walker .result) (q .before .first-stride .result) (st .pre .0) (now (g .out)) (q .loop .out) (q .loop .w) (q .loop .h) (q .loop .count) (q .loop .counter) v (st .pre .1 .1) _ refl (omega (arith, c .before .before .before .before .before .before .before .before .before .loop-test .taken)) (c .before .before .before .before .before .before .before .before .step .ensures) in
+    let k = st .pre .1 .0 in
+    search needs
 
 enum-known-stepped-2 : tie.Need-enum-known-stepped-2 Inv-loop μ-loop
 enum-known-stepped-2 c = search needs
@@ -63,7 +70,14 @@ left-of-requires c κs =
     held (g .a) (g .b) (g .tol) (g .dir) (g .x) (g .p) (g .n) (q .before .before .first-walker .result) (q .before .first-stride .result) (st .pre .0) (now (g .out)) (q .loop .out) (q .loop .w) (q .loop .h) (q .loop .count) (q .loop .counter) v (st .pre .1 .1) _ refl (omega (arith, c .before .before .before .before .loop-test .taken)) (c .before .before .before .step .ensures) _ (c .before .stepped2 .given .1)
 
 mul-put-2 : tie.Need-mul-put-2 Inv-loop μ-loop
-mul-put-2 c = search needs
+mul-put-2 c =
+    let q = c .before .before .before .before .before .before .before in
+    let st = q .before .before .before .before in
+    let g = st .args in
+    let v = q .loop .inv in
+    let f = few-left (g .a) (g .b) (g .tol) (g .dir) (g .x) (g .p) (g .n) (q .before .before .first-walker .result) (q .before .first-stride .result) (st .pre .0) (now (g .out)) (q .loop .out) (q .loop .w) (q .loop .h) (q .loop .count) (q .loop .counter) v (st .pre .1 .1) _ refl (omega (arith, c .before .before .before .before .before .before .loop-test .taken)) (c .before .before .before .before .before .step .ensures) (c .before .before .before .stepped2 .given .0 .0) (c .before .left-of .ensures) in
+    let k = st .pre .1 .0 in
+    search needs
 
 row-for-requires-2 : tie.Need-row-for-requires-2 Inv-loop μ-loop
 row-for-requires-2 c κs = search needs
@@ -74,7 +88,7 @@ put-requires-2 c κs =
     let st = q .before .before .before .before in
     let g = st .args in
     let v = q .loop .inv in
-    fits-left (g .a) (g .b) (g .tol) (g .dir) (g .x) (g .p) (g .n) (q .before .before .first-walker .result) (q .before .first-stride .result) (st .pre .0) (now (g .out)) (q .loop .out) (q .loop .w) (q .loop .h) (q .loop .count) (q .loop .counter) v (st .pre .1 .1) _ refl (omega (arith, c .before .before .before .before .before .before .before .loop-test .taken)) (c .before .before .before .before .before .before .step .ensures) _ (c .before .before .left-of .ensures)
+    fits-left (g .a) (g .b) (g .tol) (g .dir) (g .x) (g .p) (g .n) (q .before .before .first-walker .result) (q .before .first-stride .result) (st .pre .0) (now (g .out)) (q .loop .out) (q .loop .w) (q .loop .h) (q .loop .count) (q .loop .counter) v (st .pre .1 .1) _ refl (omega (arith, c .before .before .before .before .before .before .before .loop-test .taken)) (c .before .before .before .before .before .before .step .ensures) (c .before .before .before .before .stepped2 .given .0 .0) (c .before .before .left-of .ensures)
 
 add-t30 : tie.Need-add-t30 Inv-loop μ-loop
 add-t30 c =
@@ -82,7 +96,7 @@ add-t30 c =
     let st = q .before .before .before .before in
     let g = st .args in
     let v = q .loop .inv in
-    let f = few-left (g .a) (g .b) (g .tol) (g .dir) (g .x) (g .p) (g .n) (q .before .before .first-walker .result) (q .before .first-stride .result) (st .pre .0) (now (g .out)) (q .loop .out) (q .loop .w) (q .loop .h) (q .loop .count) (q .loop .counter) v (st .pre .1 .1) _ refl (omega (arith, c .before .before .before .before .before .before .before .before .before .before .loop-test .taken)) (c .before .before .before .before .before .before .before .before .before .step .ensures) _ (c .before .before .before .before .before .left-of .ensures) in
+    let f = few-left (g .a) (g .b) (g .tol) (g .dir) (g .x) (g .p) (g .n) (q .before .before .first-walker .result) (q .before .first-stride .result) (st .pre .0) (now (g .out)) (q .loop .out) (q .loop .w) (q .loop .h) (q .loop .count) (q .loop .counter) v (st .pre .1 .1) _ refl (omega (arith, c .before .before .before .before .before .before .before .before .before .before .loop-test .taken)) (c .before .before .before .before .before .before .before .before .before .step .ensures) (c .before .before .before .before .before .before .before .stepped2 .given .0 .0) (c .before .before .before .before .before .left-of .ensures) in
     let k = st .pre .1 .0 in
     search needs
 

@@ -1,0 +1,18 @@
+-- `meeting::newton::meet_in_plane` meets its contract: each way out has its tests, and what it calls its own. Assumes nothing.
+use borrow.Author.Needs.{needs}
+use Rattle.meeting.specs.Newton.{meetInPlaneOf}
+use Rattle.meeting.proofs.newton.meet_in_plane.Statement.{statement}
+use Rattle.meeting.proofs.newton.meet_in_plane.Tie as tie
+
+within-bounds-requires : tie.Need-within-bounds-requires
+within-bounds-requires c κs = search needs
+
+newton-requires : tie.Need-newton-requires
+newton-requires c κs = search needs
+
+returns : tie.Need-returns
+unfolding meetInPlaneOf
+returns c = rw (c .newton .ensures, c .before .within-bounds .ensures)
+
+pub meet-in-plane-spec : {M : Type 1} → statement M
+meet-in-plane-spec = tie.close (tie.spec within-bounds-requires newton-requires returns)

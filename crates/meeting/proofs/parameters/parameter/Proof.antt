@@ -1,0 +1,24 @@
+-- `meeting::parameters::parameter` meets its contract: each way out has its tests, and what it calls its own. Assumes nothing.
+use borrow.Author.Tests.{eq-eqb, ne-eqb}
+use Rattle.meeting.specs.Parameters.{parameterOf}
+use Rattle.meeting.proofs.parameters.parameter.Statement.{statement}
+use Rattle.meeting.proofs.parameters.parameter.Tie as tie
+
+returns : tie.Need-returns
+unfolding parameterOf
+returns c = rw (eq-eqb _ _ (c .if1 .taken))
+
+returns-2 : tie.Need-returns-2
+unfolding parameterOf
+returns-2 c = rw (eq-eqb _ _ (c .if2 .taken), ne-eqb _ _ (c .before .if1 .left))
+
+returns-3 : tie.Need-returns-3
+unfolding parameterOf
+returns-3 c = rw (eq-eqb _ _ (c .if3 .taken), ne-eqb _ _ (c .before .if2 .left), ne-eqb _ _ (c .before .before .if1 .left))
+
+returns-4 : tie.Need-returns-4
+unfolding parameterOf
+returns-4 c = rw (ne-eqb _ _ (c .if3 .left), ne-eqb _ _ (c .before .if2 .left), ne-eqb _ _ (c .before .before .if1 .left))
+
+pub parameter-spec : {M : Type 1} → statement M
+parameter-spec = tie.close (tie.spec returns returns-2 returns-3 returns-4)

@@ -1,0 +1,12 @@
+-- `meeting::step::dot4` meets its contract: each way out has its tests, and what it calls its own. Assumes nothing.
+use mathlib.Core.Path.{refl}
+use Rattle.meeting.specs.Step.{dot4Of}
+use Rattle.meeting.proofs.step.dot4.Statement.{statement}
+use Rattle.meeting.proofs.step.dot4.Tie as tie
+
+returns : tie.Need-returns
+unfolding dot4Of
+returns c = refl
+
+pub dot4-spec : {M : Type 1} → statement M
+dot4-spec = tie.close (tie.spec returns)

@@ -1,0 +1,43 @@
+-- `meeting::step::free_step` meets its contract: each way out has its tests, and what it calls its own. Assumes nothing.
+use borrow.Author.Needs.{needs}
+use Rattle.meeting.specs.Step.{freeStep}
+use Rattle.meeting.proofs.step.free_step.Statement.{statement}
+use Rattle.meeting.proofs.step.free_step.Tie as tie
+
+normal-matrix-requires : tie.Need-normal-matrix-requires
+normal-matrix-requires c κs = search needs
+
+solve-3x3-requires : tie.Need-solve-3x3-requires
+solve-3x3-requires c κs = search needs
+
+enum-told : tie.Need-enum-told
+enum-told c = search needs
+
+enum-known-solved : tie.Need-enum-known-solved
+enum-known-solved c = search needs
+
+new-requires : tie.Need-new-requires
+new-requires c κs = search needs
+
+dot-requires : tie.Need-dot-requires
+dot-requires c κs = search needs
+
+dot-requires-2 : tie.Need-dot-requires-2
+dot-requires-2 c κs = search needs
+
+dot-requires-3 : tie.Need-dot-requires-3
+dot-requires-3 c κs = search needs
+
+dot-requires-4 : tie.Need-dot-requires-4
+dot-requires-4 c κs = search needs
+
+returns : tie.Need-returns
+unfolding freeStep
+returns c = rw (← c .before .before .before .before .before .before .normal-matrix .ensures, ← c .before .before .solve-3x3 .ensures, c .enum-told .given .1)
+
+returns-2 : tie.Need-returns-2
+unfolding freeStep
+returns-2 c = rw (← c .before .before .before .before .before .before .before .before .before .before .before .before .before .before .before .before .normal-matrix .ensures, ← c .before .before .before .before .before .before .before .before .before .before .before .before .solve-3x3 .ensures, c .before .before .before .before .before .before .before .before .before .before .solved .given .1, ← c .before .before .before .before .before .before .before .before .new .ensures, ← c .before .before .before .dot .ensures, ← c .before .before .dot2 .ensures, ← c .before .dot3 .ensures, ← c .dot4 .ensures)
+
+pub free-step-spec : {M : Type 1} → statement M
+free-step-spec = tie.close (tie.spec normal-matrix-requires solve-3x3-requires enum-told enum-known-solved new-requires dot-requires dot-requires-2 dot-requires-3 dot-requires-4 returns returns-2)

@@ -1,0 +1,3 @@
+pub mod Parameters
+pub mod Step
+pub mod Newton

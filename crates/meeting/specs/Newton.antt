@@ -1,0 +1,111 @@
+-- `meet` and `land` of marching.rs. Definitions only.
+use mathlib.Core.Bool.{Bool, _&&_}
+use Prim.Native.Nat.{ℕ}
+use lib.Ieee.{Float}
+use Rattle.loops.specs.Loop.{pick, Flow, on, out, searched}
+use Rattle.number.specs.Operators.{bits, _⊗_, _<?_, _≤?_}
+use Rattle.number.specs.Helpers.{one, half, absOf}
+use Rattle.geometry.specs.declared.vector.Vector3D.{Vector3D}
+use Rattle.geometry.specs.declared.point.Point3D.{Point3D}
+use Rattle.geometry.specs.declared.tolerance.Tolerance.{Tolerance}
+use Rattle.geometry.specs.Vector.{magnitudeOf}
+use Rattle.patch.specs.declared.patch.Patch.{Patch}
+use Rattle.patch.specs.declared.patch.Parameters.{Parameters}
+use Rattle.patch.specs.Patch.{insideOf, withinBounds}
+use Rattle.meeting.specs.declared.step.Target.{Target}
+use Rattle.meeting.specs.declared.step.Target.the-variants.{Free, Plane, Pin}
+use Rattle.meeting.specs.declared.step.Residual.{Residual}
+use Rattle.meeting.specs.declared.step.Step.{Step}
+use Rattle.meeting.specs.declared.step.Step.the-variants as step
+use Rattle.meeting.specs.declared.newton.Met.{Met}
+use Rattle.meeting.specs.declared.newton.Met.the-variants.{At, Nothing}
+use Rattle.meeting.specs.declared.newton.Trial.{Trial}
+use Rattle.meeting.specs.declared.newton.Trial.the-variants as trial
+use Rattle.meeting.specs.declared.newton.Round.{Round}
+use Rattle.meeting.specs.declared.newton.Round.the-variants as round
+use Rattle.meeting.specs.Parameters.{withParameter}
+use Rattle.meeting.specs.Step.{residualOf, newtonStep, shiftedOf}
+
+-- gap and plane offset at most a bound; "Both tests also ask that every parameter lie inside its window where that has no turn mark"
+unfoldable pub nearOf : Patch → Patch → Residual → Float → Bool
+nearOf a b s bound = magnitudeOf (s .f) ≤? bound && (absOf (s .r) ≤? bound && insideOf a b (s .x))
+
+-- "a tenth of confusion": the Rust's `0.1`
+abbrev pub tenth : Float
+tenth = bits 0x3FB9_9999_9999_999A
+
+-- ---- "up to 12 trials with halved scale, the first with strictly smaller merit taken"
+
+-- "the first with strictly smaller merit taken", else half the scale
+abbrev pub trialAt : Residual → Residual → Float → Flow Float Trial
+trialAt s t scale = pick (t .merit <? s .merit) (out (trial.Better t)) (on (scale ⊗ half))
+
+-- a trial: the step scaled, clamped to the windows, its residual
+abbrev pub trialStep : Patch → Patch → Target → Residual → Parameters → ℕ → Float → Flow Float Trial
+trialStep a b target s d i scale = trialAt s (residualOf a b target (withinBounds a b (shiftedOf target (s .x) d scale))) scale
+
+-- "Without one the rounds end."
+abbrev pub noTrial : Float → Trial
+noTrial scale = trial.Nothing
+
+-- the trials from the i-th on
+abbrev pub trialsFrom : Patch → Patch → Target → Residual → Parameters → ℕ → Float → Trial
+trialsFrom a b target s d i scale = searched (trialStep a b target s d) noTrial i 12 (on scale)
+
+-- all 12, from the scale 1.0
+unfoldable pub trialsOf : Patch → Patch → Target → Residual → Parameters → Trial
+trialsOf a b target s d = trialsFrom a b target s d 0 one
+
+-- ---- one round
+
+-- "The last test is against confusion itself."
+unfoldable pub lastTest : Patch → Patch → Float → Residual → Met
+lastTest a b confusion s = pick (nearOf a b s confusion) (At (s .x)) Nothing
+
+-- "Without one the rounds end."
+abbrev pub afterTrials : Patch → Patch → Float → Residual → Trial → Round
+afterTrials a b confusion s (trial.Better t) = round.Next t
+afterTrials a b confusion s trial.Nothing = round.End (lastTest a b confusion s)
+
+-- "A failed solve refuses, even where that last test would pass."
+abbrev pub afterStep : Patch → Patch → Target → Float → Residual → Step → Round
+afterStep a b target confusion s (step.By d) = afterTrials a b confusion s (trialsOf a b target s d)
+afterStep a b target confusion s step.Singular = round.End Nothing
+
+-- "accepted at once when gap and plane offset are at most a tenth of confusion; else a solve, and up to 12 trials"
+unfoldable pub roundOf : Patch → Patch → Target → Float → Residual → Round
+roundOf a b target confusion s =
+    pick (nearOf a b s (tenth ⊗ confusion)) (round.End (At (s .x))) (afterStep a b target confusion s (newtonStep a b target s))
+
+-- ---- "at most 32 rounds"
+
+-- what a round says to the loop
+abbrev pub goingOn : Round → Flow Residual Met
+goingOn (round.Next t) = on t
+goingOn (round.End m) = out m
+
+-- one turn of the loop
+abbrev pub roundStep : Patch → Patch → Target → Float → ℕ → Residual → Flow Residual Met
+roundStep a b target confusion i s = goingOn (roundOf a b target confusion s)
+
+-- the rounds from the i-th on, then the last test
+abbrev pub roundsFrom : Patch → Patch → Target → Float → ℕ → Residual → Met
+roundsFrom a b target confusion i s = searched (roundStep a b target confusion) (lastTest a b confusion) i 32 (on s)
+
+-- all 32, from the residual at x
+unfoldable pub newtonOf : Patch → Patch → Target → Parameters → Float → Met
+newtonOf a b target x confusion = roundsFrom a b target confusion 0 (residualOf a b target x)
+
+-- ---- "`meet`: the guess is clamped to windows without turn mark", without and with a plane
+
+-- `meet` without a plane
+unfoldable pub meetOf : Patch → Patch → Parameters → Tolerance → Met
+meetOf a b x tol = newtonOf a b Free (withinBounds a b x) (tol .confusion)
+
+-- `meet` with a plane
+unfoldable pub meetInPlaneOf : Patch → Patch → Parameters → Point3D → Vector3D → Tolerance → Met
+meetInPlaneOf a b x origin normal tol = newtonOf a b (Plane origin normal) (withinBounds a b x) (tol .confusion)
+
+-- "`land` does the same without plane, one parameter pinned": from the clamped guess with that parameter at its bound
+unfoldable pub landOf : Patch → Patch → Parameters → ℕ → Float → Tolerance → Met
+landOf a b x pin value tol = newtonOf a b (Pin pin) (withParameter (withinBounds a b x) pin value) (tol .confusion)

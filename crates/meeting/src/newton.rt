@@ -1,0 +1,152 @@
+// Newton's method of the Rust's `meet` and `land`: they differ in what is solved beside the meeting and in where they start.
+use crate::parameters::with_parameter;
+use crate::step::Residual;
+use crate::step::Step;
+use crate::step::Target;
+use crate::step::newton_step;
+use crate::step::residual_at;
+use crate::step::shifted;
+use geometry::Point3D;
+use geometry::Tolerance;
+use geometry::Vector3D;
+use patch::Parameters;
+use patch::Patch;
+use patch::inside;
+use patch::within_bounds;
+ghost use mathlib.Core.Path.{_≡_};
+ghost use Rattle.meeting.specs.Newton.{nearOf, trialsOf, lastTest, roundOf, newtonOf, meetOf, meetInPlaneOf, landOf};
+
+// Where the surfaces were met, or that they were not.
+pub enum Met {
+    At(Parameters),
+    Nothing,
+}
+
+// The first trial that falls short of the merit, if one does.
+pub enum Trial {
+    Better(Residual),
+    Nothing,
+}
+
+// What a round gives: the residual to go on with, or the answer.
+pub enum Round {
+    Next(Residual),
+    End(Met),
+}
+
+// Whether the gap and the plane offset are at most the bound, every parameter inside its window.
+fn near(a: Patch, b: Patch, s: Residual, bound: f64) -> bool
+    ensures { λ r. ⌜ r ≡ nearOf a b s bound ⌝ }
+{
+    let f = s.f;
+    let x = s.x;
+    if f.magnitude() <= bound {
+        if number::abs(s.r) <= bound {
+            inside(a, b, x)
+        } else {
+            false
+        }
+    } else {
+        false
+    }
+}
+
+// Up to 12 trials, each with half the scale of the one before.
+fn trials(a: Patch, b: Patch, target: Target, s: Residual, d: Parameters) -> Trial
+    ensures { λ r. ⌜ r ≡ trialsOf a b target s d ⌝ }
+{
+    let x = s.x;
+    let mut scale = 1.0;
+    for _ in 0..12usize {
+        let y = within_bounds(a, b, shifted(target, x, d, scale));
+        let t = residual_at(a, b, target, y);
+        if t.merit < s.merit {
+            return Trial::Better(t);
+        }
+        scale = scale * 0.5;
+    }
+    Trial::Nothing
+}
+
+// The last test, against confusion itself.
+fn last_test(a: Patch, b: Patch, confusion: f64, s: Residual) -> Met
+    ensures { λ r. ⌜ r ≡ lastTest a b confusion s ⌝ }
+{
+    if near(a, b, s, confusion) {
+        let x = s.x;
+        Met::At(x)
+    } else {
+        Met::Nothing
+    }
+}
+
+fn newton_round(a: Patch, b: Patch, target: Target, confusion: f64, s: Residual) -> Round
+    ensures { λ r. ⌜ r ≡ roundOf a b target confusion s ⌝ }
+{
+    if near(a, b, s, 0.1 * confusion) {
+        let x = s.x;
+        return Round::End(Met::At(x));
+    }
+    let step = newton_step(a, b, target, s);
+    let Step::By(d) = step else {
+        return Round::End(Met::Nothing);
+    };
+    let trial = trials(a, b, target, s, d);
+    let Trial::Better(t) = trial else {
+        return Round::End(last_test(a, b, confusion, s));
+    };
+    Round::Next(t)
+}
+
+fn newton(a: Patch, b: Patch, target: Target, x: Parameters, confusion: f64) -> Met
+    ensures { λ r. ⌜ r ≡ newtonOf a b target x confusion ⌝ }
+{
+    let mut s = residual_at(a, b, target, x);
+    for _ in 0..32usize {
+        let round = newton_round(a, b, target, confusion, s);
+        match round {
+            Round::End(met) => {
+                return met;
+            }
+            Round::Next(t) => {
+                s = t;
+            }
+        }
+    }
+    last_test(a, b, confusion, s)
+}
+
+// A meeting near x.
+pub fn meet(a: Patch, b: Patch, x: Parameters, tol: Tolerance) -> Met
+    ensures { λ r. ⌜ r ≡ meetOf a b x tol ⌝ }
+{
+    newton(a, b, Target::Free, within_bounds(a, b, x), tol.confusion)
+}
+
+// A meeting near x in the plane through the origin with the normal.
+pub fn meet_in_plane(
+    a: Patch,
+    b: Patch,
+    x: Parameters,
+    origin: Point3D,
+    normal: Vector3D,
+    tol: Tolerance,
+) -> Met
+    ensures { λ r. ⌜ r ≡ meetInPlaneOf a b x origin normal tol ⌝ }
+{
+    newton(
+        a,
+        b,
+        Target::Plane(origin, normal),
+        within_bounds(a, b, x),
+        tol.confusion,
+    )
+}
+
+// A meeting near x with the parameter `pin` held at the value.
+pub fn land(a: Patch, b: Patch, x: Parameters, pin: usize, value: f64, tol: Tolerance) -> Met
+    ensures { λ r. ⌜ r ≡ landOf a b x pin value tol ⌝ }
+{
+    let start = with_parameter(within_bounds(a, b, x), pin, value);
+    newton(a, b, Target::Pin(pin), start, tol.confusion)
+}
