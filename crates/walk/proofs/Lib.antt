@@ -1,4 +1,5 @@
 pub mod Halves
+pub mod Lines
 pub mod Lists
 pub mod Steps
 pub mod Turning

@@ -2,7 +2,7 @@
 use mathlib.Core.Bool.{Bool, _&&_}
 use mathlib.Core.List.{List, [], _∷_, _++_}
 use Prim.Native.Nat.{ℕ, _+_, _*_, _-_}
-use lib.Ieee.{Float}
+use lib.Ieee.{Float, neg}
 use lib.ListN.{length, take, drop}
 use Rattle.loops.specs.Loop.{pick}
 use Rattle.number.specs.Operators.{bits}
@@ -24,7 +24,7 @@ abbrev pub ahead : Float
 ahead = bits 0x3FF0_0000_0000_0000
 
 abbrev pub back : Float
-back = bits 0xBFF0_0000_0000_0000
+back = neg ahead
 
 -- "0 open, 1 closed forward, 2 closed backward": a half closed forward is the whole line
 abbrev pub roundLine : Parameters → Walked → Line

@@ -1,6 +1,10 @@
 -- `walk::line::finish` meets its contract. Assumes nothing.
+use mathlib.Core.Path.{_∙_}
 use borrow.Author.Needs.{needs}
+use denote.Ref.{now}
+use Rattle.walk.proofs.Lines.{cleared}
 use borrow.Author.Tests.{le-ltb, lt-ltb}
+use Rattle.walk.specs.Trace.{finishedOf}
 use Rattle.walk.proofs.line.finish.Statement.{statement}
 use Rattle.walk.proofs.line.finish.Tie as tie
 
@@ -11,7 +15,10 @@ same-length : tie.Need-same-length
 same-length c = search needs
 
 returns : tie.Need-returns
-returns c = rw (lt-ltb _ _ (c .before .before .before .before .if1 .taken), c .before .before .before .clear-arg .given .1, ← c .before .before .clear .ensures, c .before .points .given .1)
+unfolding finishedOf
+returns c =
+    let short = lt-ltb _ _ (c .before .before .before .before .if1 .taken) in
+    (rw short, rw short (c .before .before .clear .ensures ∙ cleared (now (c .before .before .before .before .before .before .args .points))))
 
 mul-clear : tie.Need-mul-clear
 mul-clear c = search needs
@@ -23,7 +30,10 @@ same-length-2 : tie.Need-same-length-2
 same-length-2 c = search needs
 
 returns-2 : tie.Need-returns-2
-returns-2 c = rw (le-ltb _ _ (c .before .before .before .before .if1 .left), c .before .before .before .clear-arg2 .given .1, ← c .before .before .clear2 .ensures, c .before .points2 .given .1)
+unfolding finishedOf
+returns-2 c =
+    let long = le-ltb _ _ (c .before .before .before .before .if1 .left) in
+    (rw long, rw long (c .before .before .clear2 .ensures))
 
 pub finish-spec : {M : Type 1} → statement M
 finish-spec =

@@ -1,5 +1,9 @@
 -- `walk::line::join` meets its contract. Assumes nothing.
+use mathlib.Core.Path.{sym}
+use native.Mathlib.Omega.{arith}
 use borrow.Author.Needs.{needs}
+use denote.Ref.{now}
+use Rattle.walk.proofs.Lines.{joined, joined-first, joined-second}
 use Rattle.walk.proofs.line.join.Statement.{statement}
 use Rattle.walk.proofs.line.join.Tie as tie
 
@@ -19,10 +23,10 @@ slice-relend-prefix-turn : tie.Need-slice-relend-prefix-turn
 slice-relend-prefix-turn c = search needs
 
 slice-aggregate-turn : tie.Need-slice-aggregate-turn
-slice-aggregate-turn c = search needs
+slice-aggregate-turn c = sym (joined-first _ _ _ (c .before .before .pre .0))
 
 turn-requires : tie.Need-turn-requires
-turn-requires c κs = search needs
+turn-requires c κs = (joined-first _ _ _ (c .before .before .pre .0), omega (arith, c .before .before .pre .1))
 
 mul-turn : tie.Need-mul-turn
 mul-turn c = search needs
@@ -46,7 +50,9 @@ same-length : tie.Need-same-length
 same-length c = search needs
 
 returns : tie.Need-returns
-returns c = rw (c .before .before .before .before .before .before .before .turn-arg .given .1, ← c .before .before .before .before .before .before .turn .ensures, c .before .before .before .before .before .points .given .1, c .before .before .before .turn-arg2 .given .1, ← c .before .before .turn2 .ensures, c .before .points2 .given .1)
+returns c =
+    let st = c .before .before .before .before .before .before .before .before .before in
+    joined (st .args .forward) (st .args .backward) (now (st .args .points)) (st .pre .0) (c .before .before .before .before .before .before .turn .ensures) (c .before .before .turn2 .ensures)
 
 pub join-spec : {M : Type 1} → statement M
 join-spec =

@@ -31,11 +31,11 @@ returns c = rw (← c .before .before .before .fitness .ensures, c .before .firs
 
 returns-2 : tie.Need-returns-2
 unfolding callFitness
-returns-2 c = rw (← c .before .before .before .before .before .before .fitness .ensures, c .before .before .before .before .enum-told .given .1, ← c .before .before .before .fitness2 .ensures, ← c .before .before .match2 .ensures, c .before .second .given .1)
+returns-2 c = rw (← c .before .before .before .before .before .before .fitness .ensures, c .before .before .before .before .enum-told .given .1, ← c .before .before .before .fitness2 .ensures, c .before .second .given .1)
 
 returns-3 : tie.Need-returns-3
 unfolding callFitness
-returns-3 c = rw (← c .before .before .before .before .before .before .fitness .ensures, c .before .before .before .before .enum-told .given .1, ← c .before .before .before .fitness2 .ensures, ← c .before .before .match2 .ensures, c .before .enum-told2 .given .1, ← c .limits .ensures)
+returns-3 c = rw (← c .before .before .before .before .before .before .fitness .ensures, c .before .before .before .before .enum-told .given .1, ← c .before .before .before .fitness2 .ensures, c .before .enum-told2 .given .1, ← c .limits .ensures)
 
 pub call-fitness-spec : {M : Type 1} → statement M
 call-fitness-spec =
