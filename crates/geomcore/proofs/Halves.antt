@@ -70,11 +70,13 @@ module _ (a b : Patch) (tol : Tolerance) (fc : T (fits binary64 (tol .confusion)
   closes (y ∷ ys) true h k g l = record {
     few = omega arith;
     good = (gx, g .1);
-    ends = came-round refl ys refl (omega arith) (linked-rest (Near a) y x ys l) }
+    ends = came-round refl ys refl (omega arith) (linked-rest (Near a) y x ys l);
+  }
   closes (y ∷ ys) false h k g l = record {
     few = omega arith;
     good = (gx, g);
-    ends = came-round refl (y ∷ ys) refl (omega arith) l }
+    ends = came-round refl (y ∷ ys) refl (omega arith) l;
+  }
 
   after : (i : ℕ) (s : Halfway) → i < n → Sofar i s → (r : Stepped) → SteppedFine a b (tol .confusion) (length (s .points)) (s .w .p) r
       → Kept (Sofar (i + 1)) Done (afterStep x (s .points) r)
@@ -82,16 +84,19 @@ module _ (a b : Patch) (tol : Tolerance) (fc : T (fits binary64 (tol .confusion)
     few = let e = v .few in omega (arith, e);
     good = (f .good fc, v .good);
     linked = joins (s .points) (s .w .p) (w .x) (w .p) (v .stands) f (v .linked);
-    stands = f .own }
+    stands = f .own;
+  }
   after i s h v (Closed removed) f = closes (s .points) removed (let e = v .few in omega (arith, e, h)) f (v .good) (v .linked)
   after i s h v (Edge y q) f = record {
     few = let e = v .few in omega (arith, e, h);
     good = (f .good fc, v .good);
-    ends = left-open refl (joins (s .points) (s .w .p) y q (v .stands) f (v .linked)) }
+    ends = left-open refl (joins (s .points) (s .w .p) y q (v .stands) f (v .linked));
+  }
   after i s h v Ended f = record {
     few = let e = v .few in omega (arith, e, h);
     good = v .good;
-    ends = left-open refl (v .linked) }
+    ends = left-open refl (v .linked);
+  }
 
   pub half-fine : (t : Vector3D) → HalfFine a b (tol .confusion) x n (halfOf a b tol dir x t n .points) (halfOf a b tol dir x t n .closed)
   unfolding halfOf firstWalker
