@@ -29,7 +29,10 @@ use Rattle.marching.specs.declared.tangent.Direction.the-variants as direction
 use Rattle.marching.specs.Tangent.{tangentOf}
 use Rattle.good.specs.Good.{Good}
 use Rattle.good.proofs.Good.{meet-good}
+use Rattle.certificate.specs.declared.check.Checked.the-variants.{Passed}
 use Rattle.certificate.specs.Passes.{Passes}
+use Rattle.certificate.specs.Check.{checkOf}
+use Rattle.certificate.proofs.Passed.{passes-checked}
 use Rattle.walk.specs.Lent.{rowsOf}
 use Rattle.walk.specs.Line.{lineOf}
 use Rattle.walk.specs.Line as line
@@ -138,3 +141,15 @@ trace-passes a b tol guess n l fc count start closing e = go (callFitness a b to
     go Fit k q =
         let s = call-fit a b tol guess n l k in
         walked-passing a b tol fc (s .0) (s .1) (s .2) n (s .3) (drop (room n) l) count start closing guess q
+
+-- as a caller of `trace` has it, from the two equations of its contract
+module _ (a b : Patch) (tol : Tolerance) (guess : Parameters) (n : ℕ) (l : List Float) (fc : T (fits binary64 (tol .confusion))) {r : Traced} {after : List Float}
+    (answer : r ≡ traceOf a b tol guess n l .answer) (buffer : after ≡ traceOf a b tol guess n l .buffer) (count start closing : ℕ) (is-line : r ≡ Line count start closing) where
+  pub traced-passes : Passes a b tol after count start closing
+  traced-passes =
+      subst (λ (k : List Float). Passes a b tol k count start closing) (sym buffer)
+      (trace-passes a b tol guess n l fc count start closing (sym answer ∙ is-line))
+
+  -- and so `check` says passed of it
+  pub traced-checked : checkOf a b tol after count start closing ≡ Passed
+  traced-checked = passes-checked a b tol after count start closing traced-passes
