@@ -1,0 +1,5 @@
+pub mod Chains
+pub mod Halves
+pub mod Lines
+pub mod Rows
+pub mod Passing
