@@ -39,10 +39,11 @@ use Rattle.walk.specs.Line as line
 use Rattle.walk.specs.Trace.{Outcome, countOf, startOf, closingOf, guessFinite, limitsOf, afterPatch, callFitness, room, settled, afterDirection, afterSeed, walkedOf, afterCall, traceOf}
 use Rattle.walk.specs.declared.answer.Traced.{Traced}
 use Rattle.walk.specs.declared.answer.Traced.the-variants.{Line, Refused}
+use Rattle.walk.proofs.Calls.{call-fit}
 use Rattle.geomcore.proofs.Lines.{LineFine, line-fine}
 use Rattle.geomcore.proofs.Rows.{line-passes}
 
--- ---- no refusal is a line, and nothing unfit is fit
+-- ---- no refusal is a line
 
 abbrev sign : Traced → ℕ
 sign (Line count start closing) = 1
@@ -50,43 +51,6 @@ sign (Refused r) = 0
 
 unlined : {r : Refusal} {count start closing : ℕ} → Refused r ≡ Line count start closing → ⊥
 unlined e = let z : _≡_ {A = ℕ} 0 1 = ap sign e in omega arith
-
-abbrev fitSign : Fitness → ℕ
-fitSign Fit = 1
-fitSign (Unfit r) = 0
-
-unfitting : {r : Refusal} → Unfit r ≡ Fit → ⊥
-unfitting e = let z : _≡_ {A = ℕ} 0 1 = ap fitSign e in omega arith
-
--- ---- what a call that is not refused before 9 has
-
-patch-stages : (f g h : Fitness) → afterPatch f (afterPatch g h) ≡ Fit → (f ≡ Fit) × (g ≡ Fit) × (h ≡ Fit)
-patch-stages (Unfit r) g h e = absurd (unfitting e)
-patch-stages Fit (Unfit r) h e = absurd (unfitting e)
-patch-stages Fit Fit h e = (refl, refl, e)
-
-limit-stages : (t g p q h : Bool)
-    → pick t (pick g (pick p (pick q (pick h Fit (Unfit refusal.Lent)) (Unfit refusal.StepCap)) (Unfit refusal.StepCap)) (Unfit refusal.Parameter)) (Unfit refusal.Tolerance) ≡ Fit
-    → (t ≡ true) × (q ≡ true)
-limit-stages false g p q h e = absurd (unfitting e)
-limit-stages true false p q h e = absurd (unfitting e)
-limit-stages true true false q h e = absurd (unfitting e)
-limit-stages true true true false h e = absurd (unfitting e)
-limit-stages true true true true h e = (refl, refl)
-
-limits-fit : (tol : Tolerance) (guess : Parameters) (n : ℕ) (l : List Float) → limitsOf tol guess n l ≡ Fit → T (toleranceFit tol) × (n ≤ 2000)
-unfolding limitsOf
-limits-fit tol guess n l e =
-    let s = limit-stages (toleranceFit tol) (guessFinite guess) (leb 2 n) (leb n 2000) (holdsOf width l (2 * n + 1)) e in
-    (subst T (sym (s .0)) tt, leb-true n 2000 (s .1))
-
-call-fit : (a b : Patch) (tol : Tolerance) (guess : Parameters) (n : ℕ) (l : List Float) → callFitness a b tol guess n l ≡ Fit
-    → (fitnessOf a ≡ Fit) × (fitnessOf b ≡ Fit) × T (toleranceFit tol) × (n ≤ 2000)
-unfolding callFitness
-call-fit a b tol guess n l e =
-    let s = patch-stages (fitnessOf a) (fitnessOf b) (limitsOf tol guess n l) e in
-    let k = limits-fit tol guess n l (s .2) in
-    (s .0, s .1, k .0, k .1)
 
 -- ---- a fit call
 

@@ -1,3 +1,4 @@
+pub mod Calls
 pub mod Halves
 pub mod Lines
 pub mod Lists

@@ -1,5 +1,14 @@
 -- `walk::trace::trace` meets its contract. Assumes nothing.
+use mathlib.Core.Path.{sym, ap, _∙_}
+use mathlib.Core.List.{List, _++_}
+use native.Mathlib.Omega.{arith}
 use borrow.Author.Needs.{needs}
+use denote.Ref.{now}
+use lib.Ieee.{Float}
+use lib.ListN.{drop}
+use lib.Seq.{length-take-le}
+use Rattle.walk.specs.Trace.{room, traceOf}
+use Rattle.walk.proofs.Calls.{call-fit}
 use Rattle.walk.proofs.trace.trace.Statement.{statement}
 use Rattle.walk.proofs.trace.trace.Tie as tie
 
@@ -13,34 +22,54 @@ enum-told : tie.Need-enum-told
 enum-told c = search needs
 
 mul-room : tie.Need-mul-room
-mul-room c = search needs
+mul-room c =
+    let f = call-fit (c .before .before .before .before .before .args .a) (c .before .before .before .before .before .args .b) (c .before .before .before .before .before .args .tol) (c .before .before .before .before .before .args .guess) (c .before .before .before .before .before .args .cap) (now (c .before .before .before .before .before .args .buffer)) (_∙_ (sym (c .before .before .call-fitness .ensures)) (c .enum-told .given .1)) in
+    let k = f .3 in
+    search needs
 
 add-room : tie.Need-add-room
-add-room c = search needs
+add-room c =
+    let f = call-fit (c .before .before .before .before .before .args .a) (c .before .before .before .before .before .args .b) (c .before .before .before .before .before .args .tol) (c .before .before .before .before .before .args .guess) (c .before .before .before .before .before .args .cap) (now (c .before .before .before .before .before .args .buffer)) (_∙_ (sym (c .before .before .call-fitness .ensures)) (c .enum-told .given .1)) in
+    let k = f .3 in
+    search needs
 
 mul-room-2 : tie.Need-mul-room-2
-mul-room-2 c = search needs
+mul-room-2 c =
+    let f = call-fit (c .before .before .before .before .before .args .a) (c .before .before .before .before .before .args .b) (c .before .before .before .before .before .args .tol) (c .before .before .before .before .before .args .guess) (c .before .before .before .before .before .args .cap) (now (c .before .before .before .before .before .args .buffer)) (_∙_ (sym (c .before .before .call-fitness .ensures)) (c .enum-told .given .1)) in
+    let k = f .3 in
+    search needs
 
 slice-relend-prefix-walked : tie.Need-slice-relend-prefix-walked
-slice-relend-prefix-walked c = search needs
+slice-relend-prefix-walked c =
+    let f = call-fit (c .before .before .before .before .before .args .a) (c .before .before .before .before .before .args .b) (c .before .before .before .before .before .args .tol) (c .before .before .before .before .before .args .guess) (c .before .before .before .before .before .args .cap) (now (c .before .before .before .before .before .args .buffer)) (_∙_ (sym (c .before .before .call-fitness .ensures)) (c .enum-told .given .1)) in
+    let k = f .4 in
+    let m = f .3 in
+    search needs
 
 slice-aggregate-walked : tie.Need-slice-aggregate-walked
-slice-aggregate-walked c = search needs
+slice-aggregate-walked c =
+    let f = call-fit (c .before .before .before .before .before .before .args .a) (c .before .before .before .before .before .before .args .b) (c .before .before .before .before .before .before .args .tol) (c .before .before .before .before .before .before .args .guess) (c .before .before .before .before .before .before .args .cap) (now (c .before .before .before .before .before .before .args .buffer)) (_∙_ (sym (c .before .before .before .call-fitness .ensures)) (c .before .enum-told .given .1)) in
+    sym (length-take-le _ _ (omega (arith, f .4)))
 
 walked-requires : tie.Need-walked-requires
-walked-requires c κs = search needs
+walked-requires c κs =
+    let f = call-fit (c .before .before .before .before .before .before .args .a) (c .before .before .before .before .before .before .args .b) (c .before .before .before .before .before .before .args .tol) (c .before .before .before .before .before .before .args .guess) (c .before .before .before .before .before .before .args .cap) (now (c .before .before .before .before .before .before .args .buffer)) (_∙_ (sym (c .before .before .before .call-fitness .ensures)) (c .before .enum-told .given .1)) in
+    (f .3, length-take-le _ _ (omega (arith, f .4)))
 
 same-length : tie.Need-same-length
 same-length c = search needs
 
 returns : tie.Need-returns
-returns c = rw (c .before .before .before .before .call-fitness-arg .given .1, ← c .before .before .before .call-fitness .ensures, c .before .fitness .given .1)
+unfolding traceOf
+returns c = (rw (← c .before .before .before .call-fitness .ensures, c .before .fitness .given .1), rw (← c .before .before .before .call-fitness .ensures, c .before .fitness .given .1))
 
 same-length-2 : tie.Need-same-length-2
 same-length-2 c = search needs
 
 returns-2 : tie.Need-returns-2
-returns-2 c = rw (c .before .before .before .before .before .before .before .call-fitness-arg .given .1, ← c .before .before .before .before .before .before .call-fitness .ensures, c .before .before .before .before .enum-told .given .1, c .before .before .before .walked-arg .given .1, ← c .before .before .walked .ensures, c .before .buffer .given .1)
+unfolding traceOf
+returns-2 c =
+    (rw (← c .before .before .before .before .before .before .call-fitness .ensures, c .before .before .before .before .enum-told .given .1) (c .before .before .walked .ensures .0), rw (← c .before .before .before .before .before .before .call-fitness .ensures, c .before .before .before .before .enum-told .given .1) (ap (λ (l : List Float). l ++ drop (room (c .before .before .before .before .before .before .before .before .before .args .cap)) (now (c .before .before .before .before .before .before .before .before .before .args .buffer))) (c .before .before .walked .ensures .1)))
 
 pub trace-spec : {M : Type 1} → statement M
 trace-spec =

@@ -1,5 +1,12 @@
 -- `walk::trace::walked` meets its contract. Assumes nothing.
+use mathlib.Core.Path.{ap, _∙_}
+use Prim.Native.Nat.{ℕ}
 use borrow.Author.Needs.{needs}
+use denote.Ref.{now}
+use lib.ListN.{replicate}
+use Rattle.groups.specs.Row.{zero}
+use Rattle.walk.specs.Trace.{walkedOf}
+use Rattle.walk.proofs.Lines.{cleared}
 use Rattle.walk.proofs.trace.walked.Statement.{statement}
 use Rattle.walk.proofs.trace.walked.Tie as tie
 
@@ -19,7 +26,11 @@ same-length : tie.Need-same-length
 same-length c = search needs
 
 returns : tie.Need-returns
-returns c = rw (← c .before .before .before .before .before .before .meet .ensures, c .before .before .before .before .enum-told .given .1, c .before .before .before .clear-arg .given .1, ← c .before .before .clear .ensures, c .before .points .given .1)
+unfolding walkedOf
+returns c =
+    let st = c .before .before .before .before .before .before .before .before in
+    let z = c .before .before .clear .ensures ∙ cleared (now (st .args .points)) ∙ ap (λ (k : ℕ). replicate k zero) (st .pre .1) in
+    (rw (← c .before .before .before .before .before .before .meet .ensures, c .before .before .before .before .enum-told .given .1), rw (← c .before .before .before .before .before .before .meet .ensures, c .before .before .before .before .enum-told .given .1) z)
 
 tangent-requires : tie.Need-tangent-requires
 tangent-requires c κs = search needs
@@ -37,19 +48,26 @@ same-length-2 : tie.Need-same-length-2
 same-length-2 c = search needs
 
 returns-2 : tie.Need-returns-2
-returns-2 c = rw (← c .before .before .before .before .before .before .before .before .before .before .meet .ensures, c .before .before .before .before .before .before .before .before .met .given .1, ← c .before .before .before .before .before .before .tangent .ensures, ← c .before .before .before .before .before .match2 .ensures, c .before .before .before .before .enum-told2 .given .1, c .before .before .before .clear-arg2 .given .1, ← c .before .before .clear2 .ensures, c .before .points2 .given .1)
+unfolding walkedOf
+returns-2 c =
+    let st = c .before .before .before .before .before .before .before .before .before .before .before .before in
+    let z = c .before .before .clear2 .ensures ∙ cleared (now (st .args .points)) ∙ ap (λ (k : ℕ). replicate k zero) (st .pre .1) in
+    (rw (← c .before .before .before .before .before .before .before .before .before .before .meet .ensures, c .before .before .before .before .before .before .before .before .met .given .1, ← c .before .before .before .before .before .before .tangent .ensures, c .before .before .before .before .enum-told2 .given .1), rw (← c .before .before .before .before .before .before .before .before .before .before .meet .ensures, c .before .before .before .before .before .before .before .before .met .given .1, ← c .before .before .before .before .before .before .tangent .ensures, c .before .before .before .before .enum-told2 .given .1) z)
 
 eval-point-requires : tie.Need-eval-point-requires
 eval-point-requires c κs = search needs
 
 line-requires : tie.Need-line-requires
-line-requires c κs = search needs
+line-requires c κs = (c .before .eval-point .ensures, c .before .before .before .before .before .before .before .before .before .before .before .pre)
 
 same-length-3 : tie.Need-same-length-3
 same-length-3 c = search needs
 
 returns-3 : tie.Need-returns-3
-returns-3 c = rw (← c .before .before .before .before .before .before .before .before .before .before .before .before .meet .ensures, c .before .before .before .before .before .before .before .before .before .before .met .given .1, ← c .before .before .before .before .before .before .before .before .tangent .ensures, ← c .before .before .before .before .before .before .before .match2 .ensures, c .before .before .before .before .before .before .direction .given .1, ← c .before .before .before .before .eval-point .ensures, c .before .before .before .line-arg .given .1, ← c .before .before .line .ensures, c .before .points3 .given .1)
+unfolding walkedOf
+returns-3 c =
+    let z = c .before .before .line .ensures in
+    (rw (← c .before .before .before .before .before .before .before .before .before .before .before .before .meet .ensures, c .before .before .before .before .before .before .before .before .before .before .met .given .1, ← c .before .before .before .before .before .before .before .before .tangent .ensures, c .before .before .before .before .before .before .direction .given .1) (z .0), rw (← c .before .before .before .before .before .before .before .before .before .before .before .before .meet .ensures, c .before .before .before .before .before .before .before .before .before .before .met .given .1, ← c .before .before .before .before .before .before .before .before .tangent .ensures, c .before .before .before .before .before .before .direction .given .1) (z .1))
 
 pub walked-spec : {M : Type 1} → statement M
 walked-spec =
