@@ -62,11 +62,12 @@ pub popped : (a : Patch) (count : ℕ) (l : List Float) (points : List Parameter
     → take (7 * count) l ≡ rowsOf a (reverse points)
     → (count - 1 ≡ length (withoutLast points)) × (take (7 * (count - 1)) l ≡ rowsOf a (reverse (withoutLast points)))
 popped a count l [] size some written = absurd (let e : ⊥ = omega arith in e)
-popped a count l (y ∷ ys) size some written =
-    (omega arith
-    , (sym (take-take (7 * (count - 1)) (7 * count) l (omega arith)) ∙ ap (take (7 * (count - 1))) (written ∙ rows-last a y ys)
+popped a count l (y ∷ ys) size some written = (
+  omega arith,
+  (sym (take-take (7 * (count - 1)) (7 * count) l (omega arith)) ∙ ap (take (7 * (count - 1))) (written ∙ rows-last a y ys)
       ∙ take-at (rowsOf a (reverse ys)) (numbersOf (ownRow a y)) (7 * (count - 1))
-        (rows-length a (reverse ys) ∙ ap (λ (k : ℕ). 7 * k) (length-reverse ys) ∙ (let e : 7 * length ys ≡ 7 * (count - 1) = omega arith in e))))
+      (rows-length a (reverse ys) ∙ ap (λ (k : ℕ). 7 * k) (length-reverse ys) ∙ (let e : 7 * length ys ≡ 7 * (count - 1) = omega arith in e))),
+)
 
 -- the points of a half stand at the front of l
 abbrev pub DoneAs : Patch → ℕ → Walked → List Float → ℕ → Bool → Type 0
@@ -99,11 +100,16 @@ module _ (a b : Patch) (tol : Tolerance) (dir : Float) (x : Parameters) (p : Poi
       (enough : 7 * n ≤ length out₀) (u : Walked) (eu : whole ≡ u) where
     pub going-spent : n ≤ i → DoneAs a n u l count false
     going-spent e =
-        let s = searched-done (halfStep a b tol dir x) halfSpent i n {s = record { w = w; h = h; points = g .points }} e (g .same) ∙ eu in
-        ( g .size ∙ ap (λ (v : Walked). length (v .points)) s
-        , (ap (λ (v : Walked). v .closed) s
-        , (let f = g .few in let k = g .within in omega (arith, f, k)
-        , g .written ∙ ap (λ (v : Walked). rowsOf a (reverse (v .points))) s)))
+        let s = searched-done (halfStep a b tol dir x) halfSpent i n {s = record { w = w; h = h; points = g .points }} e (g .same) ∙ eu in (
+          g .size ∙ ap (λ (v : Walked). length (v .points)) s,
+          (
+            ap (λ (v : Walked). v .closed) s,
+            (
+              let f = g .few in let k = g .within in omega (arith, f, k),
+              g .written ∙ ap (λ (v : Walked). rowsOf a (reverse (v .points))) s,
+            ),
+          ),
+        )
 
     module _ (turn : i < n) {stepped : Stepped} (es : stepped ≡ stepOf a b tol dir p count w h) where
       step-is : stepped ≡ stepOf a b tol dir (pointA a x) (length (g .points)) w h
@@ -133,24 +139,35 @@ module _ (a b : Patch) (tol : Tolerance) (dir : Float) (x : Parameters) (p : Poi
         few = let f = g .few in omega (arith, f);
         within = omega (arith, turn);
         written = pushed a count l (g .points) (g .size) (g .written) (next .x) (next .p) (subst (SteppedFine a b (tol .confusion) count (w .p)) e fine .own) fits em;
-        room = length-put l (7 * count) (rowFor (next .p) (next .x)) fits em ∙ g .room }
+        room = length-put l (7 * count) (rowFor (next .p) (next .x)) fits em ∙ g .room;
+      }
 
       pub going-ended : stepped ≡ Ended → DoneAs a n u l count false
       going-ended e =
-          let s = left (record { points = g .points; closed = false }) Ended e refl in
-          ( g .size ∙ ap (λ (v : Walked). length (v .points)) s
-          , (ap (λ (v : Walked). v .closed) s
-          , (let f = g .few in omega (arith, f, turn)
-          , g .written ∙ ap (λ (v : Walked). rowsOf a (reverse (v .points))) s)))
+          let s = left (record { points = g .points; closed = false }) Ended e refl in (
+            g .size ∙ ap (λ (v : Walked). length (v .points)) s,
+            (
+              ap (λ (v : Walked). v .closed) s,
+              (
+                let f = g .few in omega (arith, f, turn),
+                g .written ∙ ap (λ (v : Walked). rowsOf a (reverse (v .points))) s,
+              ),
+            ),
+          )
 
       pub going-edge : (y : Parameters) (q : Point3D) {m : List Float} → stepped ≡ Edge y q → m ≡ placed l (7 * count) (rowFor q y) → DoneAs a n u m (count + 1) false
       going-edge y q {m} e em =
-          let s = left (record { points = y ∷ g .points; closed = false }) (Edge y q) e refl in
-          ( (let z = g .size in let f : count + 1 ≡ length (y ∷ g .points) = omega (arith, z) in f) ∙ ap (λ (v : Walked). length (v .points)) s
-          , (ap (λ (v : Walked). v .closed) s
-          , (let f = g .few in omega (arith, f, turn)
-          , pushed a count l (g .points) (g .size) (g .written) y q (subst (SteppedFine a b (tol .confusion) count (w .p)) e fine .own) fits em
-            ∙ ap (λ (v : Walked). rowsOf a (reverse (v .points))) s)))
+          let s = left (record { points = y ∷ g .points; closed = false }) (Edge y q) e refl in (
+            (let z = g .size in let f : count + 1 ≡ length (y ∷ g .points) = omega (arith, z) in f) ∙ ap (λ (v : Walked). length (v .points)) s,
+            (
+              ap (λ (v : Walked). v .closed) s,
+              (
+                let f = g .few in omega (arith, f, turn),
+                pushed a count l (g .points) (g .size) (g .written) y q (subst (SteppedFine a b (tol .confusion) count (w .p)) e fine .own) fits em
+                    ∙ ap (λ (v : Walked). rowsOf a (reverse (v .points))) s,
+              ),
+            ),
+          )
 
       pub held : (removed : Bool) → stepped ≡ Closed removed → 3 ≤ count
       held removed e = subst (SteppedFine a b (tol .confusion) count (w .p)) e fine
@@ -158,7 +175,7 @@ module _ (a b : Patch) (tol : Tolerance) (dir : Float) (x : Parameters) (p : Poi
       -- what is left where the half closes
       rest : (removed : Bool) → stepped ≡ Closed removed
           → (pick removed (count - 1) count ≡ length (pick removed (withoutLast (g .points)) (g .points)))
-            × (take (7 * pick removed (count - 1) count) l ≡ rowsOf a (reverse (pick removed (withoutLast (g .points)) (g .points))))
+          × (take (7 * pick removed (count - 1) count) l ≡ rowsOf a (reverse (pick removed (withoutLast (g .points)) (g .points))))
       rest true e = popped a count l (g .points) (g .size) (let k = held true e in omega (arith, k)) (g .written)
       rest false e = (g .size, g .written)
 
@@ -181,8 +198,13 @@ module _ (a b : Patch) (tol : Tolerance) (dir : Float) (x : Parameters) (p : Poi
           let z : k ≡ length kept = ek ∙ r .0 in
           let b = below removed in
           let o : take (7 * k) l ≡ rowsOf a (reverse kept) = ap (λ (j : ℕ). take (7 * j) l) ek ∙ r .1 in
-          let le : k ≤ count = subst (λ (j : ℕ). j ≤ count) (sym ek) b in
-          ( (let f : k + 1 ≡ length (x ∷ kept) = omega (arith, z) in f) ∙ ap (λ (v : Walked). length (v .points)) s
-          , (ap (λ (v : Walked). v .closed) s
-          , (let f = g .few in omega (arith, f, turn, le)
-          , pushed a k l kept z o x p own (let f = fits in omega (arith, f, le)) em ∙ ap (λ (v : Walked). rowsOf a (reverse (v .points))) s)))
+          let le : k ≤ count = subst (λ (j : ℕ). j ≤ count) (sym ek) b in (
+            (let f : k + 1 ≡ length (x ∷ kept) = omega (arith, z) in f) ∙ ap (λ (v : Walked). length (v .points)) s,
+            (
+              ap (λ (v : Walked). v .closed) s,
+              (
+                let f = g .few in omega (arith, f, turn, le),
+                pushed a k l kept z o x p own (let f = fits in omega (arith, f, le)) em ∙ ap (λ (v : Walked). rowsOf a (reverse (v .points))) s,
+              ),
+            ),
+          )

@@ -180,10 +180,10 @@ module _ (f b : ℕ) (l : List Float) (h : 7 * (1 + f + b) ≤ length l) where
       ∙ ap (λ (z : List Float). take (7 * (1 + f + b)) (turnedOf b ys ++ (z ++ R))) ex
       ∙ ap (take (7 * (1 + f + b))) (sym (append-assoc (turnedOf b ys) xs R))
       ∙ take-at (turnedOf b ys ++ xs) R (7 * (1 + f + b))
-        (length-append (turnedOf b ys) xs
-        ∙ (let y : length (turnedOf b ys) ≡ 7 * b = ap (λ (z : List Float). length (turnedOf b z)) (sym ey) ∙ lTB in
-           let x : length xs ≡ 7 * (1 + f) = ap length (sym ex) ∙ lS in
-           let e : length (turnedOf b ys) + length xs ≡ 7 * (1 + f + b) = omega (arith, x, y) in e))
+      (length-append (turnedOf b ys) xs
+      ∙ (let y : length (turnedOf b ys) ≡ 7 * b = ap (λ (z : List Float). length (turnedOf b z)) (sym ey) ∙ lTB in
+      let x : length xs ≡ 7 * (1 + f) = ap length (sym ex) ∙ lS in
+      let e : length (turnedOf b ys) + length xs ≡ 7 * (1 + f + b) = omega (arith, x, y) in e))
 
 -- ---- the last part
 
@@ -195,15 +195,16 @@ settled-is a n count l found ec ew el = go (leb 4 (length (found .points))) refl
     full : Outcome
     full = record {
       answer = Line (length (found .points)) (found .start) (found .closing);
-      buffer = rowsOf a (found .points) ++ replicate (room n - 7 * length (found .points)) row.zero }
+      buffer = rowsOf a (found .points) ++ replicate (room n - 7 * length (found .points)) row.zero;
+    }
 
     empty : Outcome
     empty = refusedWalk refusal.TooShort n
 
     go : (t : Bool) → leb 4 (length (found .points)) ≡ t
         → pick (ltb count 4) (record { answer = Refused refusal.TooShort; buffer = replicate (length l) row.zero })
-          (record { answer = Line count (found .start) (found .closing); buffer = take (7 * count) l ++ replicate (length l - 7 * count) row.zero })
-          ≡ pick t full empty
+        (record { answer = Line count (found .start) (found .closing); buffer = take (7 * count) l ++ replicate (length l - 7 * count) row.zero })
+        ≡ pick t full empty
     go true e = rw (le-ltb count 4 (let k = leb-true 4 (length (found .points)) e in omega (arith, k, ec)), ew, el, ec)
     go false e = rw (lt-ltb count 4 (let k = leb-false 4 (length (found .points)) e in omega (arith, k, ec)), el)
 
@@ -238,7 +239,7 @@ both-front a x f b l B fw bw h wf lB eb wb =
     let e : take (7 * (1 + f)) (backFrom (7 * (1 + f)) l B) ≡ rowsOf a (x ∷ reverse fw) = ap (take (7 * (1 + f))) s ∙ take-at (take (7 * (1 + f)) l) B (7 * (1 + f)) t ∙ wf in
     joined-front f b (backFrom (7 * (1 + f)) l B) (let g = length-from (7 * (1 + f)) l B hl lB in omega (arith, g, h)) (ap (take (7 * b)) d ∙ wb) e
     ∙ ap (λ (z : List Float). z ++ rowsOf a (x ∷ reverse fw))
-      (ap (λ (k : ℕ). turnedOf k (rowsOf a (reverse bw))) (eb ∙ sym (length-reverse bw)) ∙ turned-rows a (reverse bw) ∙ ap (rowsOf a) (reverse-twice bw))
+    (ap (λ (k : ℕ). turnedOf k (rowsOf a (reverse bw))) (eb ∙ sym (length-reverse bw)) ∙ turned-rows a (reverse bw) ∙ ap (rowsOf a) (reverse-twice bw))
     ∙ sym (rows-append a bw (x ∷ reverse fw))
 
 -- which halves a line has

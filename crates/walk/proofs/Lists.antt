@@ -34,7 +34,7 @@ module _ {A : Type 0} where
       ∙ ap (paste b from (replicate (length b - from) z)) (let e : 0 ≡ from - from = omega arith in e)
 
   pub filled-again : (b : List A) (from : ℕ) (z : A) (i : ℕ) {s : List A} → from ≤ i → i < length b → s ≡ filled b from z i
-    → set s i z ≡ filled b from z (i + 1)
+      → set s i z ≡ filled b from z (i + 1)
   filled-again b from z i h l e =
       let k = i - from in
       let n = length b - from in
@@ -47,7 +47,7 @@ module _ {A : Type 0} where
       ∙ ap (paste b from (replicate n z)) (let e : suc k ≡ i + 1 - from = omega arith in e)))
 
   pub filled-done : (b : List A) (from : ℕ) (z : A) (i : ℕ) {s : List A} → from ≤ length b → i ≡ length b → s ≡ filled b from z i
-    → s ≡ take from b ++ replicate (length b - from) z
+      → s ≡ take from b ++ replicate (length b - from) z
   filled-done b from z i h l e =
       let n = length b - from in
       let lr = length-replicate n z in

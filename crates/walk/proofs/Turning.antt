@@ -65,11 +65,11 @@ seven-at l at (suc (suc (suc (suc (suc (suc (suc r))))))) h = absurd (let e : �
 
 -- a point stored over point j: what stands at point j, and at another
 pub stored-same : (l m : List Float) (j i r : ℕ) {q : Row} → 7 * j + 7 ≤ length l → r < 7 → q ≡ rowFrom m (7 * i)
-  → getD (placed l (7 * j) q) (7 * j + r) nan ≡ getD m (7 * i + r) nan
+    → getD (placed l (7 * j) q) (7 * j + r) nan ≡ getD m (7 * i + r) nan
 stored-same l m j i r fits h e = rw e (inside l (7 * j) (rowFrom m (7 * i)) fits r h ∙ seven-at m (7 * i) r h)
 
 pub stored-other : (l : List Float) (j a r : ℕ) (q : Row) → 7 * j + 7 ≤ length l → r < 7 → (a ≡ j → ⊥)
-  → getD (placed l (7 * j) q) (7 * a + r) nan ≡ getD l (7 * a + r) nan
+    → getD (placed l (7 * j) q) (7 * a + r) nan ≡ getD l (7 * a + r) nan
 stored-other l j a r q fits h ne =
     ⊎-elim
     (λ (lo : a < j). before l (7 * j) q fits (7 * a + r) (omega arith))
@@ -86,7 +86,7 @@ length-turned (suc k) l h =
     ∙ (let x = length-turned k (drop 7 l) (omega arith) in let y = length-take-le 7 l (omega arith) in omega arith)
 
 pub turned-at : (k : ℕ) (l : List Float) → length l ≡ 7 * k → (a r : ℕ) → a < k → r < 7
-  → getD (turnedOf k l) (7 * a + r) nan ≡ getD l (7 * (k - 1 - a) + r) nan
+    → getD (turnedOf k l) (7 * a + r) nan ≡ getD l (7 * (k - 1 - a) + r) nan
 unfolding turnedOf
 turned-at zero l h a r ha hr = absurd (let e : ⊥ = omega arith in e)
 turned-at (suc k) l h a r ha hr =
@@ -95,14 +95,14 @@ turned-at (suc k) l h a r ha hr =
     let ll = length-turned k (drop 7 l) hd in
     ⊎-elim
     (λ (lo : a < k).
-      List·getD-append (turnedOf k (drop 7 l)) (take 7 l) nan (7 * a + r) (omega arith)
-      ∙ turned-at k (drop 7 l) hd a r lo hr
-      ∙ getD-drop 7 l (7 * (k - 1 - a) + r) nan
-      ∙ ap (λ (t : ℕ). getD l t nan) (let e : 7 + (7 * (k - 1 - a) + r) ≡ 7 * (suc k - 1 - a) + r = omega arith in e))
+    List·getD-append (turnedOf k (drop 7 l)) (take 7 l) nan (7 * a + r) (omega arith)
+    ∙ turned-at k (drop 7 l) hd a r lo hr
+    ∙ getD-drop 7 l (7 * (k - 1 - a) + r) nan
+    ∙ ap (λ (t : ℕ). getD l t nan) (let e : 7 + (7 * (k - 1 - a) + r) ≡ 7 * (suc k - 1 - a) + r = omega arith in e))
     (λ (hi : k ≤ a).
-      past (turnedOf k (drop 7 l)) (take 7 l) r (7 * a + r) (omega arith)
-      ∙ getD-take 7 l r nan hr
-      ∙ ap (λ (t : ℕ). getD l t nan) (let e : r ≡ 7 * (suc k - 1 - a) + r = omega arith in e))
+    past (turnedOf k (drop 7 l)) (take 7 l) r (7 * a + r) (omega arith)
+    ∙ getD-take 7 l r nan hr
+    ∙ ap (λ (t : ℕ). getD l t nan) (let e : r ≡ 7 * (suc k - 1 - a) + r = omega arith in e))
     (lt-or-ge a k)
 
 -- ---- the loop: i points at each end are turned, those between are as they were
@@ -117,11 +117,12 @@ turning-start k b = record {
   size = refl;
   low = λ a r h l. absurd (let e : ⊥ = omega arith in e);
   high = λ a r h l m. absurd (let e : ⊥ = omega arith in e);
-  middle = λ a r h l m. refl }
+  middle = λ a r h l m. refl;
+}
 
 module _ (k i : ℕ) (b s : List Float) (hb : length b ≡ 7 * k) (hi : i < k / 2) (v : Turning k i b s) {p q : Row} {s' s'' : List Float}
-  (ep : p ≡ rowFrom s (7 * i)) (eq : q ≡ rowFrom s (7 * (k - 1 - i)))
-  (e' : s' ≡ placed s (7 * i) q) (e'' : s'' ≡ placed s' (7 * (k - 1 - i)) p) where
+    (ep : p ≡ rowFrom s (7 * i)) (eq : q ≡ rowFrom s (7 * (k - 1 - i)))
+    (e' : s' ≡ placed s (7 * i) q) (e'' : s'' ≡ placed s' (7 * (k - 1 - i)) p) where
   l0 : length s ≡ 7 * k
   l0 = v .size ∙ hb
 
@@ -157,37 +158,38 @@ module _ (k i : ℕ) (b s : List Float) (hb : length b ≡ 7 * k) (hi : i < k / 
   turning-again = record {
     size = ap length e'' ∙ length-over s' (7 * (k - 1 - i)) (numbersOf p) fits-high ∙ l1 ∙ sym hb;
     low = λ a r h l. ⊎-elim
-      (λ (g : a < i). at-other a r h (λ e. omega arith) (λ e. omega arith) ∙ v .low a r h g)
-      (λ (g : i ≤ a). let e : a ≡ i = omega arith in
+        (λ (g : a < i). at-other a r h (λ e. omega arith) (λ e. omega arith) ∙ v .low a r h g)
+        (λ (g : i ≤ a). let e : a ≡ i = omega arith in
         subst (λ (j : ℕ). getD s'' (7 * j + r) nan ≡ getD b (7 * (k - 1 - j) + r) nan) (sym e)
         (at-low r h ∙ v .middle (k - 1 - i) r h (omega arith) (omega arith)))
-      (lt-or-ge a i);
+        (lt-or-ge a i);
     high = λ a r h l m. ⊎-elim
-      (λ (g : a < k - i). let e : a ≡ k - 1 - i = omega arith in
+        (λ (g : a < k - i). let e : a ≡ k - 1 - i = omega arith in
         subst (λ (j : ℕ). getD s'' (7 * j + r) nan ≡ getD b (7 * (k - 1 - j) + r) nan) (sym e)
         (at-high r h ∙ v .middle i r h (omega arith) (omega arith)
         ∙ ap (λ (j : ℕ). getD b (7 * j + r) nan) (let f : i ≡ k - 1 - (k - 1 - i) = omega arith in f)))
-      (λ (g : k - i ≤ a). at-other a r h (λ e. omega arith) (λ e. omega arith) ∙ v .high a r h l g)
-      (lt-or-ge a (k - i));
-    middle = λ a r h l m. at-other a r h (λ e. omega arith) (λ e. omega arith) ∙ v .middle a r h (omega arith) (omega arith) }
+        (λ (g : k - i ≤ a). at-other a r h (λ e. omega arith) (λ e. omega arith) ∙ v .high a r h l g)
+        (lt-or-ge a (k - i));
+    middle = λ a r h l m. at-other a r h (λ e. omega arith) (λ e. omega arith) ∙ v .middle a r h (omega arith) (omega arith);
+  }
 
 pub turning-done : (k i : ℕ) (b s : List Float) → length b ≡ 7 * k → k / 2 ≤ i → i ≤ k / 2 → Turning k i b s → s ≡ turnedOf k b
 turning-done k i b s hb lo hi v =
     ext-getD nan s (turnedOf k b) (v .size ∙ hb ∙ sym (length-turned k b hb))
     (λ t ht.
-      let a = t / 7 in
-      let r = t % 7 in
-      let et : 7 * a + r ≡ t = omega arith in
-      let hr : r < 7 = omega arith in
-      let ha : a < k = let e = v .size in omega arith in
-      subst (λ (j : ℕ). getD s j nan ≡ getD (turnedOf k b) j nan) et
-      (by-place a r hr ha ∙ sym (turned-at k b hb a r ha hr)))
+    let a = t / 7 in
+    let r = t % 7 in
+    let et : 7 * a + r ≡ t = omega arith in
+    let hr : r < 7 = omega arith in
+    let ha : a < k = let e = v .size in omega arith in
+    subst (λ (j : ℕ). getD s j nan ≡ getD (turnedOf k b) j nan) et
+    (by-place a r hr ha ∙ sym (turned-at k b hb a r ha hr)))
   where
     by-place : (a r : ℕ) → r < 7 → a < k → getD s (7 * a + r) nan ≡ getD b (7 * (k - 1 - a) + r) nan
     by-place a r hr ha = ⊎-elim
-      (λ (g : a < i). v .low a r hr g)
-      (λ (g : i ≤ a). ⊎-elim
+        (λ (g : a < i). v .low a r hr g)
+        (λ (g : i ≤ a). ⊎-elim
         (λ (f : a < k - i). v .middle a r hr g f ∙ ap (λ (j : ℕ). getD b (7 * j + r) nan) (let e : a ≡ k - 1 - a = omega arith in e))
         (λ (f : k - i ≤ a). v .high a r hr ha f)
         (lt-or-ge a (k - i)))
-      (lt-or-ge a i)
+        (lt-or-ge a i)

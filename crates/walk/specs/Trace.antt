@@ -101,7 +101,8 @@ settled a n found =
     pick (leb 4 (length (found .points)))
     (record {
       answer = Line (length (found .points)) (found .start) (found .closing);
-      buffer = rowsOf a (found .points) ++ replicate (room n - width * length (found .points)) zero })
+      buffer = rowsOf a (found .points) ++ replicate (room n - width * length (found .points)) zero;
+    })
     (refusedWalk refusal.TooShort n)
 
 -- 10: "no direction at the meeting"

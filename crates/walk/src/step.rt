@@ -43,7 +43,14 @@ fn came_round(confusion: f64, start: Point3D, held: usize, p: Point3D, q: Point3
 }
 
 // An inner step closes the line on its start or goes on. The last point goes if it lies nearer the start than a tenth of the stride.
-fn inner_step(confusion: f64, start: Point3D, held: usize, p: Point3D, next: Walker, h: f64) -> Stepped
+fn inner_step(
+    confusion: f64,
+    start: Point3D,
+    held: usize,
+    p: Point3D,
+    next: Walker,
+    h: f64,
+) -> Stepped
     ensures { λ r. ⌜ r ≡ innerStep confusion start held p next h ⌝ }
 {
     if came_round(confusion, start, held, p, next.p) {

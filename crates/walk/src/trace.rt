@@ -5,9 +5,9 @@ use crate::line::line;
 use geometry::Tolerance;
 use groups::WIDTH;
 use marching::Direction;
+use marching::tangent::tangent;
 use meeting::Met;
 use meeting::newton::meet;
-use marching::tangent::tangent;
 use patch::Fitness;
 use patch::Parameters;
 use patch::Patch;
@@ -19,6 +19,7 @@ ghost use Rattle.walk.specs.Trace.{guessFinite, limitsOf, callFitness, r
 
 // The least and the greatest step cap.
 const LEAST_CAP: usize = 2;
+
 const GREATEST_CAP: usize = 2000;
 
 fn guess_finite(x: Parameters) -> bool

@@ -61,12 +61,13 @@ loop-again c =
     let k = st .args .k in
     let i = p .loop .i in
     let l : length (p .loop .points) ≡ 7 * k = p .loop .inv .0 .size ∙ st .pre .0 in
-    let h : i < k / 2 = omega (arith, t .loop-test .taken) in
-    ( turning-again k i (now (st .args .points)) (p .loop .points) (st .pre .0) h (p .loop .inv .0)
-      (r₁ .row-of .ensures ∙ row-there (p .loop .points) i (omega (arith, l, h)))
-      (r₂ .row-of2 .ensures ∙ row-there (p .loop .points) (k - 1 - i) (omega (arith, l, h)))
-      (v .put .ensures) (u .put2 .ensures)
-    , (omega (arith, h), p .loop .inv .1 .1) )
+    let h : i < k / 2 = omega (arith, t .loop-test .taken) in (
+      turning-again k i (now (st .args .points)) (p .loop .points) (st .pre .0) h (p .loop .inv .0)
+          (r₁ .row-of .ensures ∙ row-there (p .loop .points) i (omega (arith, l, h)))
+          (r₂ .row-of2 .ensures ∙ row-there (p .loop .points) (k - 1 - i) (omega (arith, l, h)))
+          (v .put .ensures) (u .put2 .ensures),
+      (omega (arith, h), p .loop .inv .1 .1),
+    )
 
 same-length : tie.Need-same-length Inv-loop μ-loop
 same-length c = c .before .loop .inv .0 .size

@@ -1,0 +1,86 @@
+use boxes::Aabb;
+use boxes::Crossed;
+use certificate::check::Checked;
+use geometry::Tolerance;
+use patch::Located;
+use patch::Parameters;
+use patch::Patch;
+use walk::Traced;
+ghost use mathlib.Core.Path.{_≡_};
+ghost use Prim.Native.Nat.{ℕ};
+ghost use lib.Dec.{T};
+ghost use lib.Ieee.{binary64, fits};
+ghost use Rattle.patch.specs.Located.{locatedOf};
+ghost use Rattle.boxes.specs.Crossing.{crossingOf};
+ghost use Rattle.walk.specs.Trace.{traceOf};
+ghost use Rattle.walk.specs.declared.answer.Traced.the-variants.{Line};
+ghost use Rattle.certificate.specs.declared.check.Checked.the-variants.{Passed};
+ghost use Rattle.certificate.specs.Check.{checkOf};
+ghost use Rattle.certificate.specs.Passes.{Passes};
+
+// The point of a surface at (u, v). Refused: 1 to 4 for an unfit surface, then 6 for a parameter that is not finite. The windows are not
+// applied.
+pub fn point(patch: Patch, u: f64, v: f64) -> Located
+    ensures { λ r. ⌜ r ≡ locatedOf patch u v ⌝ }
+{
+    patch::point::point(patch, u, v)
+}
+
+// What a number handed over as itself is known to be: a binary64 number.
+fn known(x: f64) -> bool
+    ensures { λ r. ⌜ T (fits binary64 x) ⌝ }
+{
+    true
+}
+
+// The line where A and B meet, through the meeting that the guess leads to, by at most `cap` steps forward and as many backward.
+//
+// The answer holds the count of points, the start's index and the closing code: 0 open, 1 closed forward, 2 closed backward. Refused, in
+// this order: 1 to 4 for A, the same for B, 5 the tolerance, 6 a guess that is not finite, 7 a cap outside 2 to 2000, 8 fewer than
+// 7 (2 cap + 1) numbers lent, 9 no meeting, 10 no direction there, 11 fewer than 4 points.
+//
+// The buffer: refusals before 9 touch nothing. 9, 10 and 11 leave its first 7 (2 cap + 1) numbers zero. A line stands at its front, zeros
+// follow up to 7 (2 cap + 1), and nothing beyond changes.
+//
+// Every line that it answers passes the check.
+pub fn trace(
+    a: Patch,
+    b: Patch,
+    tol: Tolerance,
+    guess: Parameters,
+    cap: usize,
+    buffer: &mut [f64],
+) -> Traced
+    ensures { λ r. ⌜ (r ≡ traceOf a b tol guess cap (now (buffer .entry)) .answer) × ((now (buffer .exit) ≡ traceOf a b tol guess cap (now (buffer .entry)) .buffer) × ((count start closing : ℕ) → r ≡ Line count start closing → Passes a b tol (now (buffer .exit)) count start closing)) ⌝ }
+{
+    let confusion = tol.confusion;
+    let _ = known(confusion);
+    walk::trace::trace(a, b, tol, guess, cap, &mut *buffer)
+}
+
+// Whether the trace of `count` points at the front of the list is one of A and B: passed exactly when `Passes` holds. Refused, in this
+// order: 1 to 4 for A, the same for B, 5, 8 fewer than 7 numbers for each point claimed, 12 a count outside 4 to 4001, a start index not
+// below it, a code above 2 or a closing that is not so; then point by point, with the point's index, 14 a parameter outside its window,
+// 13 not A's own point, 15 a gap not at most the confusion, 16 a chord not at most 0.2. It writes nothing.
+pub fn check(
+    a: Patch,
+    b: Patch,
+    tol: Tolerance,
+    trace: &[f64],
+    count: usize,
+    start: usize,
+    closing: usize,
+) -> Checked
+    ensures { λ r. ⌜ (r ≡ checkOf a b tol (now (trace .entry)) count start closing) × ((r ≡ Passed → Passes a b tol (now (trace .entry)) count start closing) × (Passes a b tol (now (trace .entry)) count start closing → r ≡ Passed)) ⌝ }
+{
+    certificate::check::check(a, b, tol, trace, count, start, closing)
+}
+
+// Whether the trace of `count` points at the front of the list crosses the box, grown by 8000 times the confusion. Refused, in this order:
+// 5, 8, 12 (the count alone), 18 a coordinate that is not finite or above 2^20 in magnitude, 17 the same of the box, or a low side above
+// its high side. It writes nothing.
+pub fn crossing(tol: Tolerance, points: &[f64], count: usize, b: Aabb) -> Crossed
+    ensures { λ r. ⌜ r ≡ crossingOf tol (now (points .entry)) count b ⌝ }
+{
+    boxes::crossing::crossing(tol, points, count, b)
+}
