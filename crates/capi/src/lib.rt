@@ -5,10 +5,15 @@ use boxes::Aabb;
 use boxes::Crossed;
 use geometry::Point3D;
 use geometry::Tolerance;
+use job::SurfaceRead;
+use patch::Located;
+use patch::Patch;
 ghost use mathlib.Core.Path.{_≡_};
 ghost use Prim.Native.Nat.{_+_, _≤_};
 ghost use lib.ListN.{length};
+ghost use Rattle.capi.specs.Answer.{answered};
 ghost use Rattle.capi.specs.Crossing.{wordOf, cornerAt, crossingWord};
+ghost use Rattle.capi.specs.Point.{put3, pointOn, pointAnswer};
 ghost use Rattle.fdlibm.specs.Arctangent.{atan2Of};
 ghost use Rattle.fdlibm.specs.Sine.{sinOf, cosOf};
 ghost use Rattle.sqrt.specs.Sqrt.{sqrtOf};
@@ -43,6 +48,46 @@ pub extern "C" fn geomcore_atan2(y: f64, x: f64) -> f64
     ensures { λ r. ⌜ r ≡ atan2Of y x ⌝ }
 {
     fdlibm::atan2(y, x)
+}
+
+// Puts three numbers at the front of `out`.
+fn put(out: &mut [f64], x: f64, y: f64, z: f64)
+    requires { ⌜ 3 ≤ length (now out) ⌝ }
+    ensures { λ r. ⌜ now (out .exit) ≡ put3 (now (out .entry)) x y z ⌝ }
+{
+    out[0] = x;
+    out[1] = y;
+    out[2] = z;
+}
+
+// The point of a surface that is read already.
+fn point_on(patch: Patch, u: f64, v: f64, out: &mut [f64]) -> u64
+    ensures { λ r. ⌜ answered r (now (out .exit)) ≡ pointOn patch u v (now (out .entry)) ⌝ }
+{
+    if out.len() < 3 {
+        return 8;
+    }
+    let located = patch::point::point(patch, u, v);
+    match located {
+        Located::Refused(refusal) => refusal.number(),
+        Located::At(p) => {
+            put(out, p.x, p.y, p.z);
+            0
+        }
+    }
+}
+
+// Puts the point at (u, v) of the surface, given by its 146 bytes of the job file, into the first three numbers of `out`; 0, or the
+// refusal's number, and then nothing is written. 19 is tested first, then 8: fewer than three numbers lent.
+#[no_mangle]
+pub extern "C" fn geomcore_point(surface: &[u8], u: f64, v: f64, out: &mut [f64]) -> u64
+    ensures { λ r. ⌜ answered r (now (out .exit)) ≡ pointAnswer (now (surface .entry)) u v (now (out .entry)) ⌝ }
+{
+    let read = job::file::read_surface(surface);
+    match read {
+        SurfaceRead::Refused(refusal) => refusal.number(),
+        SurfaceRead::Whole(patch) => point_on(patch, u, v, out),
+    }
 }
 
 // The answer's word: the refusal's number, and 2^8 where the trace is crossed.
