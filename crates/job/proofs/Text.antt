@@ -72,6 +72,15 @@ unfolding laid written
 more t s l =
     rw (take-append-seam, ← drop-drop (length s) (length t) (t ++ drop (length t) l), drop-append-seam, drop-drop, length-append) (simp append-assoc)
 
+-- as many bytes as a line has are there, and the part of them that is lent on is as long
+module _ (t l m : List ℕ) (r : ℕ) (w : (r ≡ length t) × (m ≡ written t l)) where
+  pub line-holds : r ≤ length m
+  unfolding written
+  line-holds = rw (w .0, w .1, length-append) (omega arith)
+
+  pub line-count : r ≡ length (take r m)
+  line-count = sym (length-take-le r m line-holds)
+
 -- the first text, and a text behind what is written already
 pub text-first : (s l l′ : List ℕ) (r : ℕ) → r ≡ 0 + length s → l′ ≡ laid l 0 s → (r ≡ length s) × (l′ ≡ written s l)
 unfolding laid written
