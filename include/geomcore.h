@@ -26,6 +26,12 @@ double geomcore_atan2(double y, double x);
  * Fewer than 146 bytes are refused by 19, fewer than three numbers lent by 8. */
 uint64_t geomcore_point(const uint8_t *surface, size_t bytes, double u, double v, double *out, size_t room);
 
+/* Whether a trace of count points, seven numbers each (x, y, z, u, v on A, u, v on B), with its start's index and closing code, passes the
+ * check against the surfaces and tolerance of a job file (its guess and cap aren't read): 0, or the refusal's number + 2^32 times the
+ * index of the point that 13 to 16 name. */
+uint64_t geomcore_check(const uint8_t *job, size_t bytes, const double *buffer, size_t lent, uint64_t count,
+                        uint64_t start, uint64_t code);
+
 /* Whether a trace of count points crosses a box: the refusal's number + 256 if it does. corners: low x, y, z, then high. */
 uint64_t geomcore_crossing(double confusion, double angular, const double *buffer, size_t lent, uint64_t count,
                            const double *corners, size_t given);

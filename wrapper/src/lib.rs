@@ -9,6 +9,15 @@ extern "C" {
     fn geomcore_cos(x: f64) -> f64;
     fn geomcore_atan2(y: f64, x: f64) -> f64;
     fn geomcore_point(surface: *const u8, bytes: usize, u: f64, v: f64, out: *mut f64, room: usize) -> u64;
+    fn geomcore_check(
+        job: *const u8,
+        bytes: usize,
+        buffer: *const f64,
+        lent: usize,
+        count: u64,
+        start: u64,
+        code: u64,
+    ) -> u64;
     fn geomcore_crossing(
         confusion: f64,
         angular: f64,
@@ -36,7 +45,7 @@ pub struct Refusal {
 }
 
 impl Refusal {
-    /// The refusal in the low byte of an answer's word, and the index in its upper half.
+    /// The refusal in the low byte of an answer's word, if there is one.
     fn of(word: u64, index: u32) -> Option<Refusal> {
         match word as u8 {
             0 => None,
@@ -86,6 +95,39 @@ pub fn point(surface: &[u8], u: f64, v: f64) -> Result<[f64; 3], Refusal> {
     // SAFETY: each pointer comes with the length of what it was taken from; the callee keeps neither and writes `out` alone.
     let word = unsafe { geomcore_point(surface.as_ptr(), surface.len(), u, v, out.as_mut_ptr(), out.len()) };
     Refusal::of(word, 0).map_or(Ok(out), Err)
+}
+
+/// How a line closes: open, closed forward or closed backward.
+#[derive(Clone, Copy, Debug, PartialEq, Eq)]
+pub enum Closing {
+    Open,
+    Forward,
+    Backward,
+}
+
+/// A line in a lent buffer, seven numbers a point: how many points, which is the start, and how it closes.
+#[derive(Clone, Copy, Debug, PartialEq, Eq)]
+pub struct Line {
+    pub count: usize,
+    pub start: usize,
+    pub closing: Closing,
+}
+
+/// Whether a line passes the check against the surfaces and tolerance of a job file; its guess and cap aren't read.
+pub fn check(job: &[u8], buffer: &[f64], line: Line) -> Result<(), Refusal> {
+    // SAFETY: each pointer comes with the length of what it was taken from; the callee keeps neither and writes nothing.
+    let word = unsafe {
+        geomcore_check(
+            job.as_ptr(),
+            job.len(),
+            buffer.as_ptr(),
+            buffer.len(),
+            line.count as u64,
+            line.start as u64,
+            line.closing as u64,
+        )
+    };
+    Refusal::of(word, (word >> 32) as u32).map_or(Ok(()), Err)
 }
 
 /// Whether the first `count` points of a trace cross a box.

@@ -3,8 +3,10 @@
 //! `rt staticlib capi` writes the archive. A slice passes as a pointer and a length.
 use boxes::Aabb;
 use boxes::Crossed;
+use certificate::Checked;
 use geometry::Point3D;
 use geometry::Tolerance;
+use job::JobRead;
 use job::SurfaceRead;
 use patch::Located;
 use patch::Patch;
@@ -12,6 +14,7 @@ ghost use mathlib.Core.Path.{_≡_};
 ghost use Prim.Native.Nat.{_+_, _≤_};
 ghost use lib.ListN.{length};
 ghost use Rattle.capi.specs.Answer.{answered};
+ghost use Rattle.capi.specs.Check.{checkedWord, checkAnswer};
 ghost use Rattle.capi.specs.Crossing.{wordOf, cornerAt, crossingWord};
 ghost use Rattle.capi.specs.Point.{put3, pointOn, pointAnswer};
 ghost use Rattle.fdlibm.specs.Arctangent.{atan2Of};
@@ -87,6 +90,44 @@ pub extern "C" fn geomcore_point(surface: &[u8], u: f64, v: f64, out: &mut [f64]
     match read {
         SurfaceRead::Refused(refusal) => refusal.number(),
         SurfaceRead::Whole(patch) => point_on(patch, u, v, out),
+    }
+}
+
+// The answer's word: the refusal's number, and 2^32 times the index of the point that it names.
+fn checked_word(answer: Checked) -> u64
+    ensures { λ r. ⌜ r ≡ checkedWord answer ⌝ }
+{
+    match answer {
+        Checked::Passed => 0,
+        Checked::Refused(refusal) => {
+            std::num::wrapping_add_u64(refusal.number(), refusal.index() << 32)
+        }
+    }
+}
+
+// Checks a claimed trace against the surfaces and tolerance of a job file; its guess and cap aren't read.
+#[no_mangle]
+pub extern "C" fn geomcore_check(
+    job: &[u8],
+    buffer: &[f64],
+    count: u64,
+    start: u64,
+    code: u64,
+) -> u64
+    ensures { λ r. ⌜ r ≡ checkAnswer (now (job .entry)) (now (buffer .entry)) count start code ⌝ }
+{
+    let read = job::file::read(job);
+    match read {
+        JobRead::Refused(refusal) => refusal.number(),
+        JobRead::Whole(asked) => checked_word(certificate::check::check(
+            asked.a,
+            asked.b,
+            asked.tol,
+            buffer,
+            count as usize,
+            start as usize,
+            code as usize,
+        )),
     }
 }
 
