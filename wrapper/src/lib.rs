@@ -8,7 +8,14 @@ extern "C" {
     fn geomcore_sin(x: f64) -> f64;
     fn geomcore_cos(x: f64) -> f64;
     fn geomcore_atan2(y: f64, x: f64) -> f64;
-    fn geomcore_point(surface: *const u8, bytes: usize, u: f64, v: f64, out: *mut f64, room: usize) -> u64;
+    fn geomcore_point(
+        surface: *const u8,
+        bytes: usize,
+        u: f64,
+        v: f64,
+        out: *mut f64,
+        room: usize,
+    ) -> u64;
     fn geomcore_check(
         job: *const u8,
         bytes: usize,
@@ -93,7 +100,16 @@ pub fn atan2(y: f64, x: f64) -> f64 {
 pub fn point(surface: &[u8], u: f64, v: f64) -> Result<[f64; 3], Refusal> {
     let mut out = [0.0; 3];
     // SAFETY: each pointer comes with the length of what it was taken from; the callee keeps neither and writes `out` alone.
-    let word = unsafe { geomcore_point(surface.as_ptr(), surface.len(), u, v, out.as_mut_ptr(), out.len()) };
+    let word = unsafe {
+        geomcore_point(
+            surface.as_ptr(),
+            surface.len(),
+            u,
+            v,
+            out.as_mut_ptr(),
+            out.len(),
+        )
+    };
     Refusal::of(word, 0).map_or(Ok(out), Err)
 }
 
