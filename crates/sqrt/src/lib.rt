@@ -9,6 +9,7 @@ ghost use mathlib.Core.Bool.{true, not};
 ghost use lib.Dec.{T};
 ghost use lib.Ieee.{isNan};
 ghost use Prim.Native.Nat.{_+_, _*_, _^_, _≤_, _<_};
+ghost use Rattle.number.specs.Operators.{_≤?_};
 ghost use Rattle.sqrt.specs.Sqrt.{roundRoot, sqrtOf};
 ghost use Rattle.sqrt.specs.Nearest.{Nearest, Pieces, IsDigit, IsScaled};
 
@@ -215,4 +216,27 @@ pub fn sqrt(x: f64) -> f64
         let s = scaled(exponent, fraction);
         root_of(s.m, s.g)
     }
+}
+
+// 2 ^ -100: the square of a number from there on loses nothing to underflow.
+const LEAST: f64 = 7.888609052210118e-31;
+
+// Whether the square root of x is at most c. Squares that are clearly apart tell it without the root.
+pub fn at_most(x: f64, c: f64) -> bool
+    ensures { λ r. ⌜ r ≡ (sqrtOf x ≤? c) ⌝ }
+{
+    if LEAST <= c {
+        let square = c * c;
+        if square + square < x {
+            return false;
+        }
+        if 0.0 <= x {
+            if square <= 1.0 {
+                if x + x <= square {
+                    return true;
+                }
+            }
+        }
+    }
+    sqrt(x) <= c
 }
