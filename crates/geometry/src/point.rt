@@ -30,10 +30,7 @@ impl Point3D {
     pub fn within(self, other: Point3D, bound: f64) -> bool
         ensures { λ r. ⌜ r ≡ (distanceOf self other ≤? bound) ⌝ }
     {
-        let dx = other.x - self.x;
-        let dy = other.y - self.y;
-        let dz = other.z - self.z;
-        sqrt::at_most(dx * dx + dy * dy + dz * dz, bound)
+        other.sub(self).magnitude_at_most(bound)
     }
 
     // Point + vector.
