@@ -11,6 +11,7 @@ mod patch;
 mod point;
 mod probe;
 pub mod random;
+pub mod speed;
 mod surface;
 mod surface_math;
 mod surfaces;

@@ -6,7 +6,9 @@ use std::env;
 use std::process::ExitCode;
 
 fn usage() -> ExitCode {
-    eprintln!("usage: compare [record-]solve|[record-]surface|patch|[record-]marching|[record-]crossing SEED COUNT");
+    eprintln!(
+        "usage: compare [record-]solve|[record-]surface|patch|[record-]marching|[record-]crossing SEED COUNT"
+    );
     ExitCode::from(2)
 }
 
