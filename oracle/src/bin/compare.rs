@@ -1,12 +1,14 @@
 //! `compare PART SEED COUNT` runs a comparison; `compare record-PART SEED COUNT` writes a fixed list to standard output.
 //! Parts: solve, surface, patch, marching, crossing (lists of all but patch). Ends with 1 where anything differs, and with 2 on bad usage.
 
-use oracle::compare::{crossing, marching, patch, solve, surface};
+use oracle::compare::{check, crossing, marching, patch, solve, surface, trace};
 use std::env;
 use std::process::ExitCode;
 
 fn usage() -> ExitCode {
-    eprintln!("usage: compare [record-]solve|[record-]surface|patch|[record-]marching|[record-]crossing SEED COUNT");
+    eprintln!(
+        "usage: compare [record-]solve|[record-]surface|patch|[record-]marching|[record-]crossing SEED COUNT"
+    );
     ExitCode::from(2)
 }
 
@@ -23,6 +25,10 @@ fn main() -> ExitCode {
         "record-crossing" => crossing::record(seed, count).is_ok(),
         "marching" => marching::compare(seed, count) == 0,
         "record-marching" => marching::record(seed, count).is_ok(),
+        "trace" => trace::compare(seed, count) == 0,
+        "check" => check::compare(seed, count) == 0,
+        "check-alone" => check::alone(seed, count) == 0,
+        "trace-alone" => trace::alone(seed, count) == 0,
         "solve" => solve::compare(seed, count) == 0,
         "surface" => surface::compare(seed, count) == 0,
         "patch" => patch::compare(seed, count) == 0,
