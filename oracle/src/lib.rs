@@ -15,6 +15,7 @@ mod probe;
 pub mod random;
 mod surface_math;
 mod surfaces;
+pub mod timing;
 mod tolerance;
 mod trace;
 #[allow(dead_code)]

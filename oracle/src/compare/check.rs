@@ -1,6 +1,8 @@
 //! The check: traces of the oracle, whole and damaged, and traces laid by hand on two planes; the answers, the comparison, the fixed list.
 
 use super::jobs::{call, nudged, spoil_bytes};
+use super::trace::{JOB, padded, put};
+use super::word;
 use crate::intersect::marching::Chords;
 use crate::job::{Job, Side};
 use crate::random::Random;
@@ -388,19 +390,21 @@ fn laid(r: &mut Random) -> Claim {
 /// How many claims of each damage gave each refusal; 0 is passed.
 type Answers = [[u64; 20]; DAMAGE.len() + 1];
 
-/// The claims, with what was done to each: eight damages of one trace, and one claim in nine laid on planes.
-fn each(seed: u64, count: u64, mut take: impl FnMut(u64, usize, &Claim)) {
+/// The claims, with what was done to each, as long as `take` asks for more: eight damages of one trace, and one claim in nine laid on planes.
+fn each(seed: u64, count: u64, mut take: impl FnMut(u64, usize, &Claim) -> bool) {
     let mut r = Random::new(seed);
     let mut whole = traced(&mut r, 0);
     for i in 0..count {
-        if i % 9 == 8 {
+        let (how, claim) = if i % 9 == 8 {
             whole = traced(&mut r, i / 9);
-            take(i, DAMAGE.len(), &laid(&mut r));
-            continue;
+            (DAMAGE.len(), laid(&mut r))
+        } else {
+            let how = r.below(DAMAGE.len());
+            (how, damaged(&mut r, &whole, how))
+        };
+        if !take(i, how, &claim) {
+            return;
         }
-        let how = r.below(DAMAGE.len());
-        let claim = damaged(&mut r, &whole, how);
-        take(i, how, &claim);
     }
 }
 
@@ -420,6 +424,7 @@ fn compare_with(seed: u64, count: u64, ours: impl Fn(&Claim) -> u64) -> u64 {
                 println!("differs: claim {i}, {name}: {said:x}, expected {expected:x}");
             }
         }
+        true
     });
     println!("checks: {count} compared, {differ} differ ({behind} refused behind the first point)");
     for (how, of) in answers.iter().enumerate() {
@@ -442,4 +447,38 @@ pub fn compare(seed: u64, count: u64) -> u64 {
 /// Runs the oracle alone: what the claims are.
 pub fn alone(seed: u64, count: u64) -> u64 {
     compare_with(seed, count, answer)
+}
+
+/// How many claims of the fixed list are answered with each number; 0 is passed.
+const WANTED: [usize; 20] = [
+    80, 10, 10, 10, 10, 20, 0, 0, 30, 0, 0, 0, 60, 60, 60, 60, 60, 0, 0, 10,
+];
+
+/// The most numbers lent in a claim of the fixed list.
+const MOST: usize = 140;
+
+/// The job's length, how many numbers are lent, count, start, code, the answer's word, the job, and the numbers lent.
+fn one_record(out: &mut impl Write, c: &Claim, said: u64) -> io::Result<()> {
+    let (bytes, lent) = (c.job.len() as u64, c.trace.len() as u64);
+    put(out, &[bytes, lent, c.count, c.start, c.code, said])?;
+    out.write_all(&padded(&c.job))?;
+    let numbers: Vec<u64> = c.trace.iter().map(|x| word(*x)).collect();
+    put(out, &numbers)
+}
+
+/// Writes the fixed list: of the generated claims with few points, `count` in each hundred of what `WANTED` says (100: as it says).
+pub fn record(seed: u64, count: u64) -> io::Result<()> {
+    let mut out = io::stdout().lock();
+    let mut wanted = WANTED.map(|n| n * count as usize / 100);
+    let mut written = Ok(());
+    each(seed, u64::MAX, |_, _, c| {
+        let said = answer(c);
+        let left = &mut wanted[(said & 0xff) as usize];
+        if *left > 0 && c.trace.len() <= MOST && c.job.len() <= JOB {
+            *left -= 1;
+            written = one_record(&mut out, c, said);
+        }
+        written.is_ok() && wanted.iter().any(|n| *n > 0)
+    });
+    written
 }

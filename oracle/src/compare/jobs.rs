@@ -332,3 +332,10 @@ pub(super) fn call(r: &mut Random, index: u64) -> Call {
         lent,
     }
 }
+
+/// A job to time: windows wide enough, angles marked, the default tolerance, a cap of 100.
+pub(crate) fn timed(r: &mut Random, kinds: [usize; 2]) -> Job {
+    let mut job = near(r, 2, kinds);
+    (job.confusion, job.angular, job.cap) = (1e-7, 1e-12, 100);
+    job
+}

@@ -2,7 +2,8 @@
 
 pub mod check;
 pub mod crossing;
-mod jobs;
+pub mod fdlibm;
+pub(crate) mod jobs;
 pub mod marching;
 pub mod patch;
 pub mod solve;

@@ -126,3 +126,133 @@ pub fn alone(seed: u64, count: u64) -> u64 {
         answer(job, buffer, Chords::Asked)
     })
 }
+
+/// How many jobs of the fixed list end in each way: refused by the number, or with the closing code added to 20.
+const WANTED: [usize; 23] = [
+    0, 10, 10, 10, 10, 10, 10, 10, 20, 30, 20, 40, 0, 0, 0, 0, 0, 0, 0, 10, 200, 80, 50,
+];
+
+/// The most numbers lent in a job of the fixed list: enough for a cap of 12, and a few behind.
+const MOST: usize = 185;
+
+/// The bytes of a job in a record, zeros behind.
+pub(super) const JOB: usize = 352;
+
+/// Writes words big-endian.
+pub(super) fn put(out: &mut impl Write, words: &[u64]) -> io::Result<()> {
+    words
+        .iter()
+        .try_for_each(|w| out.write_all(&w.to_be_bytes()))
+}
+
+/// The job's bytes, zeros behind.
+pub(super) fn padded(job: &[u8]) -> Vec<u8> {
+    let mut bytes = job.to_vec();
+    bytes.resize(JOB, 0);
+    bytes
+}
+
+/// Writes the fixed list: of the generated jobs with a small cap, `count` in each hundred of what `WANTED` says (100: as it says). A record
+/// is the job's length, how many numbers are lent, the answer's word, the job, and the buffer after the call.
+pub fn record(seed: u64, count: u64) -> io::Result<()> {
+    let mut out = io::stdout().lock();
+    let mut r = Random::new(seed);
+    let mut wanted = WANTED.map(|n| n * count as usize / 100);
+    let mut i = 0;
+    while wanted.iter().any(|n| *n > 0) {
+        let c = call(&mut r, i);
+        i += 1;
+        if c.lent.len() > MOST || c.job.len() > JOB {
+            continue;
+        }
+        let (said, buffer) = traced(&c, Chords::Asked);
+        let end = unpacked(said).map_or(said & 0xff, |(_, _, code)| 20 + code) as usize;
+        if wanted[end] == 0 {
+            continue;
+        }
+        wanted[end] -= 1;
+        put(&mut out, &[c.job.len() as u64, buffer.len() as u64, said])?;
+        out.write_all(&padded(&c.job))?;
+        let words: Vec<u64> = buffer.iter().map(|x| word(*x)).collect();
+        put(&mut out, &words)?;
+    }
+    Ok(())
+}
+
+#[cfg(test)]
+mod tests {
+    use super::*;
+    use crate::job::{Job, Side};
+    use crate::trace;
+
+    /// A plane through (0, 0, z) with the given y and z directions, u within a window, v from -1 to 1.
+    fn plane(z: f64, axes: [[f64; 3]; 2], u: [f64; 2]) -> Side {
+        let mut numbers = [0.0; 18];
+        numbers[2] = z;
+        numbers[3] = 1.0;
+        numbers[6..9].copy_from_slice(&axes[0]);
+        numbers[9..12].copy_from_slice(&axes[1]);
+        numbers[14..].copy_from_slice(&[u[0], u[1], -1.0, 1.0]);
+        Side {
+            kind: 0,
+            marks: 0,
+            numbers,
+        }
+    }
+
+    const FLAT: [[f64; 3]; 2] = [[0.0, 1.0, 0.0], [0.0, 0.0, 1.0]];
+    const UPRIGHT: [[f64; 3]; 2] = [[0.0, 0.0, 1.0], [0.0, -1.0, 0.0]];
+
+    fn said(job: &Job, lent: usize) -> u64 {
+        let mut buffer = vec![0.5; lent];
+        answer(&job.write(), &mut buffer, Chords::Asked)
+    }
+
+    fn crossed(u: [f64; 2]) -> Job {
+        Job {
+            a: plane(0.0, FLAT, u),
+            b: plane(0.0, UPRIGHT, u),
+            confusion: 2f64.powi(-20),
+            angular: 1e-12,
+            guess: [0.15, 0.0, 0.15, 0.0],
+            cap: 500,
+        }
+    }
+
+    #[test]
+    fn the_scope_s_example_9() {
+        let mut job = Job {
+            a: plane(0.0, FLAT, [-1.0, 1.0]),
+            b: plane(0.0, FLAT, [-1.0, 1.0]),
+            confusion: 1e-7,
+            angular: 1e-12,
+            guess: [0.0; 4],
+            cap: 2,
+        };
+        assert_eq!(said(&job, 35), 10);
+        job.b = plane(1.0, FLAT, [-1.0, 1.0]);
+        assert_eq!(said(&job, 35), 9);
+    }
+
+    #[test]
+    fn the_scope_s_examples_10_and_11() {
+        assert_eq!(said(&crossed([0.0, 0.3]), 7007), trace::word(5, 2, 0));
+        assert_eq!(said(&crossed([0.1, 0.2]), 7007), 11);
+    }
+
+    #[test]
+    fn the_scope_s_example_12() {
+        let with = |confusion: f64, cap: u16| {
+            let mut job = crossed([0.0, 0.3]);
+            (job.confusion, job.cap) = (confusion, cap);
+            said(&job, 7007)
+        };
+        let least = 2f64.powi(-40);
+        assert_ne!(with(least, 500), 5);
+        assert_ne!(with(1.0, 500), 5);
+        assert_eq!(with(least.next_down(), 500), 5);
+        assert_eq!(with(1.0f64.next_up(), 500), 5);
+        let cap = |n: u16| with(2f64.powi(-20), n);
+        assert_eq!((cap(1), cap(2001), cap(501)), (7, 7, 8));
+    }
+}
