@@ -9,7 +9,7 @@ use crate::trace::{answer, need, unpacked};
 use std::f64::consts::TAU;
 
 /// The kinds of job, by name.
-pub(super) const KINDS: [&str; 15] = [
+pub(super) const KINDS: [&str; 16] = [
     "near a meeting",
     "a window's end near",
     "wide windows and marks",
@@ -25,6 +25,7 @@ pub(super) const KINDS: [&str; 15] = [
     "hostile numbers",
     "at a refusal's boundary",
     "job file",
+    "strides lost in rounding",
 ];
 
 /// A job as its bytes, and the buffer lent, filled with distinct numbers.
@@ -174,6 +175,51 @@ fn just_missed(r: &mut Random, kinds: [usize; 2]) -> Job {
     job
 }
 
+/// A plane through the line along x at height 0 and y = 1, or a cylinder that has it, and the parameters of the line's point at x.
+fn along_x(r: &mut Random, x: f64) -> (Side, [f64; 2]) {
+    let mut numbers = [0.0; 18];
+    let (inf, end) = (f64::INFINITY, x + x.abs() * r.pick(&[0.0, 1e-16, 1e-12]));
+    numbers[14..].copy_from_slice(&r.pick(&[
+        [-inf, inf, -inf, inf],
+        [-1e300, 1e300, -1e300, 1e300],
+        [-1e300, end, -1.0, 1e300],
+    ]));
+    if r.one_in(3) {
+        // y and z for the cylinder's x and y, x for its z; the angle is 0 at y = radius = 1.
+        (numbers[4], numbers[8], numbers[9], numbers[12]) = (1.0, 1.0, 1.0, 1.0);
+        let marks = r.below(2) as u8;
+        let side = Side {
+            kind: 1,
+            marks,
+            numbers,
+        };
+        return (side, [0.0, x]);
+    }
+    let slope = r.pick(&[0.0, 0.5, -1.0, 2.0]);
+    (numbers[1], numbers[3], numbers[7], numbers[8]) = (1.0, 1.0, 1.0, slope);
+    numbers[11] = 1.0;
+    let side = Side {
+        kind: 0,
+        marks: 0,
+        numbers,
+    };
+    (side, [x, 0.0])
+}
+
+/// A line so far out that a stride is rounded away, or to another length.
+fn lost(r: &mut Random) -> Job {
+    let x = r.scaled(40, 56);
+    let ((a, first), (b, second)) = (along_x(r, x), along_x(r, x));
+    Job {
+        a,
+        b,
+        confusion: r.pick(&[1e-7, 2f64.powi(-20), 2f64.powi(-40), 1e-3]),
+        angular: 1e-12,
+        guess: [first[0], first[1], second[0], second[1]],
+        cap: cap(r),
+    }
+}
+
 /// Writes a number somewhere into the job.
 fn put(r: &mut Random, job: &mut Job, x: f64) {
     let first = r.one_in(2);
@@ -310,6 +356,7 @@ pub(super) fn call(r: &mut Random, index: u64) -> Call {
         0..=9 => near(r, kind, kinds),
         10 => loops(r, kinds),
         11 => just_missed(r, kinds),
+        15 => lost(r),
         _ => {
             let like = r.pick(&[0, 1, 2, 9]);
             near(r, like, kinds)

@@ -3,6 +3,7 @@
 use super::jobs::{Call, KINDS, call};
 use super::word;
 use crate::intersect::marching::Chords;
+use crate::job::Job;
 use crate::random::Random;
 use crate::trace::{answer, unpacked};
 use crate::{capi, check};
@@ -91,7 +92,7 @@ fn compare_with(seed: u64, count: u64, ours: impl Fn(&[u8], &mut [f64]) -> u64) 
         found.changed += u64::from(as_it_was.0 != said || !same_words(&as_it_was.1, &buffer));
         found.kinds[c.kind].count(said);
         if let Some((points, start, code)) = unpacked(said) {
-            found.pairs[(i % 25) as usize] += 1;
+            found.pairs[5 * usize::from(c.job[5]) + usize::from(c.job[151])] += 1;
             let passes = check::answer(&c.job, &buffer, points, start, code) == 0;
             found.failing += u64::from(!passes);
         }
@@ -102,11 +103,10 @@ fn compare_with(seed: u64, count: u64, ours: impl Fn(&[u8], &mut [f64]) -> u64) 
             if found.differ <= 3 {
                 let place = (0..after.len()).find(|k| word(after[*k]) != word(buffer[*k]));
                 println!(
-                    "differs: job {i}, {}, kinds {} and {}: {answered:x}, expected {said:x}; buffer of {} from {place:?}",
+                    "differs: job {i}, {}: {answered:x}, expected {said:x}; buffer of {} from {place:?}; {:?}",
                     KINDS[c.kind],
-                    i % 25 / 5,
-                    i % 5,
-                    after.len()
+                    after.len(),
+                    Job::read(&c.job)
                 );
             }
         }
@@ -182,7 +182,7 @@ pub fn record(seed: u64, count: u64) -> io::Result<()> {
 #[cfg(test)]
 mod tests {
     use super::*;
-    use crate::job::{Job, Side};
+    use crate::job::Side;
     use crate::trace;
 
     /// A plane through (0, 0, z) with the given y and z directions, u within a window, v from -1 to 1.
