@@ -81,6 +81,34 @@ impl Found {
     }
 }
 
+/// Whether `ours` answers as the oracle and leaves the same buffer.
+fn agrees(c: &Call, ours: impl Fn(&[u8], &mut [f64]) -> u64, said: u64, buffer: &[f64]) -> bool {
+    let mut after = c.lent.clone();
+    ours(&c.job, &mut after) == said && same_words(&after, buffer)
+}
+
+/// Buffers of every length from 0 to some beyond the need, for jobs that give lines. Returns how many differ.
+fn every_length(seed: u64, ours: impl Fn(&[u8], &mut [f64]) -> u64) -> u64 {
+    let mut r = Random::new(seed);
+    let (mut compared, mut differ) = (0, 0);
+    let mut jobs = 0;
+    while jobs < 5 {
+        let mut c = call(&mut r, 0);
+        if c.lent.len() > 120 || unpacked(traced(&c, Chords::Asked).0).is_none() {
+            continue;
+        }
+        jobs += 1;
+        for length in 0..130 {
+            c.lent = (0..length).map(|i| -0.5 - f64::from(i)).collect();
+            let (said, buffer) = traced(&c, Chords::Asked);
+            compared += 1;
+            differ += u64::from(!agrees(&c, &ours, said, &buffer));
+        }
+    }
+    println!("lengths of the buffer: {compared} compared, {differ} differ");
+    differ
+}
+
 /// Compares `count` jobs with what `ours` answers and leaves in the buffer. Returns how many differ.
 fn compare_with(seed: u64, count: u64, ours: impl Fn(&[u8], &mut [f64]) -> u64) -> u64 {
     let mut r = Random::new(seed);
@@ -96,23 +124,19 @@ fn compare_with(seed: u64, count: u64, ours: impl Fn(&[u8], &mut [f64]) -> u64) 
             let passes = check::answer(&c.job, &buffer, points, start, code) == 0;
             found.failing += u64::from(!passes);
         }
-        let mut after = c.lent.clone();
-        let answered = ours(&c.job, &mut after);
-        if answered != said || !same_words(&after, &buffer) {
+        if !agrees(&c, &ours, said, &buffer) {
             found.differ += 1;
             if found.differ <= 3 {
-                let place = (0..after.len()).find(|k| word(after[*k]) != word(buffer[*k]));
+                let (kind, job) = (KINDS[c.kind], Job::read(&c.job));
                 println!(
-                    "differs: job {i}, {}: {answered:x}, expected {said:x}; buffer of {} from {place:?}; {:?}",
-                    KINDS[c.kind],
-                    after.len(),
-                    Job::read(&c.job)
+                    "differs: job {i}, {kind}, expected {said:x}, {} lent: {job:?}",
+                    buffer.len()
                 );
             }
         }
     }
     found.print(count);
-    found.differ + found.failing
+    found.differ + found.failing + every_length(seed, ours)
 }
 
 /// Compares `count` jobs with the proved code.
