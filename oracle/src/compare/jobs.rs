@@ -23,7 +23,7 @@ pub(super) const KINDS: [&str; 16] = [
     "small loops",
     "loops just missed forward",
     "hostile numbers",
-    "at a refusal's boundary",
+    "at refusals' boundaries",
     "job file",
     "strides lost in rounding",
 ];
@@ -366,7 +366,9 @@ pub(super) fn call(r: &mut Random, index: u64) -> Call {
         spoil(r, &mut job);
     }
     if kind == 13 {
-        boundary(r, &mut job);
+        for _ in 0..1 + r.below(3) {
+            boundary(r, &mut job);
+        }
     }
     let lent = lent(r, job.cap);
     let mut bytes = job.write();
