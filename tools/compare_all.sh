@@ -20,8 +20,8 @@ run() {
     awk -v name="$name" '
         match($0, /: [0-9]+ ([a-z]+ )?compared, [0-9]+ differ/) && !/^ / {
             what = substr($0, 1, RSTART - 1)
-            split(substr($0, RSTART + 2, RLENGTH - 2), word, " ")
-            printf "%-48s %12d %12d\n", what, word[1], word[length(word) - 1]
+            words = split(substr($0, RSTART + 2, RLENGTH - 2), word, " ")
+            printf "%-48s %12d %12d\n", what, word[1], word[words - 1]
             rows++
         }
         name == "strictmath" && NF == 4 && $2 ~ /^[0-9]+$/ { printf "%-48s %12d %12d\n", $1 " against StrictMath", $2, $4; rows++ }
