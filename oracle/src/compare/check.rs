@@ -4,7 +4,7 @@ use super::jobs::{call, nudged, spoil_bytes};
 use super::trace::{JOB, padded, put};
 use super::word;
 use crate::intersect::marching::Chords;
-use crate::job::{Job, Side};
+use crate::job::{BYTES, Job, Side};
 use crate::random::Random;
 use crate::surfaces::ParametricSurface;
 use crate::trace::{WIDTH, answer as trace, unpacked};
@@ -259,6 +259,27 @@ fn close(r: &mut Random, c: &mut Claim) {
     }
 }
 
+fn other_length(r: &mut Random, c: &mut Claim, place: usize) {
+    let now = c.trace.len();
+    let length = r.pick(&[
+        0,
+        1,
+        7,
+        14,
+        place,
+        now.saturating_sub(1),
+        now + 1,
+        now + 100,
+    ]);
+    c.trace.resize(length, 0.5);
+}
+
+fn other_start(r: &mut Random, c: &mut Claim) {
+    let (any, count) = (r.bits(), c.count);
+    let last = count.wrapping_sub(1);
+    c.start = r.pick(&[0, 1, 2, 3, c.start.wrapping_add(1), last, count, 4001, any]);
+}
+
 fn damaged(r: &mut Random, whole: &Claim, how: usize) -> Claim {
     let mut c = whole.clone();
     let points = c.count as usize;
@@ -273,7 +294,7 @@ fn damaged(r: &mut Random, whole: &Claim, how: usize) -> Claim {
             }
         }
         3 => other_count(r, &mut c),
-        4 => c.start = r.pick(&[0, 1, 2, 3, c.start + 1, c.count - 1, c.count, 4001, any]),
+        4 => other_start(r, &mut c),
         5 => c.code = r.pick(&[0, 1, 2, 3, 256, any]),
         6 => c.trace[place] = r.pick(&[f64::NAN, -f64::NAN, f64::INFINITY, f64::NEG_INFINITY]),
         7 => {
@@ -288,18 +309,7 @@ fn damaged(r: &mut Random, whole: &Claim, how: usize) -> Claim {
         8 => past_window(r, &mut c, i),
         9 => other_surface(r, &mut c),
         10 => other_tolerance(r, &mut c, i),
-        11 => {
-            let length = r.pick(&[
-                0,
-                1,
-                7,
-                place,
-                c.trace.len() - 1,
-                c.trace.len() + 1,
-                c.trace.len() + 100,
-            ]);
-            c.trace.resize(length, 0.5);
-        }
+        11 => other_length(r, &mut c, place),
         12 => leave_out(r, &mut c, i),
         13 => repeat(&mut c, i),
         14 => {
@@ -311,6 +321,16 @@ fn damaged(r: &mut Random, whole: &Claim, how: usize) -> Claim {
         16 => close(r, &mut c),
         17 => spoil_bytes(r, &mut c.job),
         _ => {}
+    }
+    if how > 0 && r.one_in(6) {
+        // Something more, so that refusals meet. A job file cut short stays as it is.
+        match r.below(4) {
+            0 => other_length(r, &mut c, place),
+            1 => other_start(r, &mut c),
+            2 => c.code = r.pick(&[0, 1, 2, 3, any]),
+            _ if c.job.len() == BYTES => spoil_bytes(r, &mut c.job),
+            _ => {}
+        }
     }
     c
 }
