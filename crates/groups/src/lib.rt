@@ -1,5 +1,8 @@
 //! Groups of numbers in a flat lent list, one group a point. The width of a group stands here, once for the code and
 //! once for the definitions (`width` of `specs/Groups.antt`); the laws in `proofs/Groups.antt` hold for every width.
+pub mod row;
+
+pub use row::Row;
 ghost use mathlib.Core.Path.{_≡_};
 ghost use Rattle.groups.specs.Groups.{width, holdsOf};
 

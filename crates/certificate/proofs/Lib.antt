@@ -1,0 +1,5 @@
+pub mod Turns
+pub mod Bits
+pub mod Passed
+pub mod Exact
+pub mod Evaluated

@@ -1,0 +1,48 @@
+-- `certificate::check::chord_fits` meets its contract: each way out has its tests. Assumes nothing.
+use borrow.Author.Tests.{eq-eqb, ne-eqb}
+use Rattle.certificate.specs.Check.{chordFits}
+use borrow.Author.Needs.{needs}
+use Rattle.certificate.proofs.check.chord_fits.Statement.{statement}
+use Rattle.certificate.proofs.check.chord_fits.Tie as tie
+
+returns : tie.Need-returns
+unfolding chordFits
+returns c = rw (eq-eqb _ _ (c .if1 .taken))
+
+closing-chord-requires : tie.Need-closing-chord-requires
+closing-chord-requires c κs = search needs
+
+returns-2 : tie.Need-returns-2
+unfolding chordFits
+returns-2 c = rw (ne-eqb _ _ (c .before .before .if1 .left), ← c .before .closing-chord .ensures, c .if2 .taken)
+
+point-at-requires : tie.Need-point-at-requires
+point-at-requires c κs = search needs
+
+sub-point-at : tie.Need-sub-point-at
+sub-point-at c = search needs
+
+point-at-requires-2 : tie.Need-point-at-requires-2
+point-at-requires-2 c κs = search needs
+
+distance-requires : tie.Need-distance-requires
+distance-requires c κs = search needs
+
+returns-3 : tie.Need-returns-3
+unfolding chordFits
+returns-3 c =
+    let e = c .before .before .before in
+    rw (c .distance .ensures, c .before .point-at2 .ensures, c .before .before .point-at .ensures, ne-eqb _ _ (e .before .before .if1 .left), ← e .before .closing-chord .ensures, e .if2 .left)
+
+pub chord-fits-spec : {M : Type 1} → statement M
+chord-fits-spec =
+    tie.close
+    (tie.spec
+    returns
+    closing-chord-requires
+    returns-2
+    point-at-requires
+    sub-point-at
+    point-at-requires-2
+    distance-requires
+    returns-3)

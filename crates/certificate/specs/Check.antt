@@ -1,0 +1,139 @@
+-- The public check, in 01's order of tests. Definitions only.
+use mathlib.Core.Bool.{Bool, true, false, _&&_}
+use mathlib.Core.List.{List}
+use Prim.Native.Nat.{ℕ, _-_}
+use lib.Dec.{eqb, ltb}
+use lib.Ieee.{Float}
+use lib.Ieee.Scale.{finite}
+use Rattle.loops.specs.Loop.{pick, Flow, on, out, searched}
+use Rattle.number.specs.Operators.{_≤?_}
+use Rattle.number.specs.Helpers.{sameBits}
+use Rattle.groups.specs.Groups.{width, holdsOf}
+use Rattle.groups.specs.declared.row.Row.{Row}
+use Rattle.groups.specs.Row.{rowOf}
+use Rattle.refusal.specs.declared.Refusal.{Refusal}
+use Rattle.refusal.specs.declared.Refusal.the-variants as refusal
+use Rattle.refusal.specs.Refusal as number
+use Rattle.geometry.specs.declared.point.Point3D.{Point3D}
+use Rattle.geometry.specs.declared.tolerance.Tolerance.{Tolerance}
+use Rattle.geometry.specs.Point.{distanceOf}
+use Rattle.geometry.specs.Tolerance.{toleranceFit}
+use Rattle.patch.specs.declared.patch.Patch.{Patch}
+use Rattle.patch.specs.declared.patch.Parameters.{Parameters}
+use Rattle.patch.specs.declared.patch.Fitness.{Fitness}
+use Rattle.patch.specs.declared.patch.Fitness.the-variants.{Fit, Unfit}
+use Rattle.patch.specs.Patch.{fitnessOf, insideOf}
+use Rattle.certificate.specs.declared.check.Checked.{Checked}
+use Rattle.certificate.specs.declared.check.Checked.the-variants.{Passed, Refused}
+use Rattle.certificate.specs.Passes.{pointAt, parametersAt, freshA, freshB, longestChord, closingChord}
+
+-- the paper's number for each case (0: passed), and the index that 13 to 16 add
+abbrev pub refusalOf : Checked → ℕ
+refusalOf Passed = 0
+refusalOf (Refused r) = number.numberOf r
+
+abbrev pub indexOf : Checked → ℕ
+indexOf Passed = 0
+indexOf (Refused r) = number.indexOf r
+
+-- one test after another: the first refusal is the answer
+abbrev pub andThen : Checked → Checked → Checked
+andThen (Refused r) next = Refused r
+andThen Passed next = next
+
+abbrev pub asked : Bool → Refusal → Checked
+asked t r = pick t Passed (Refused r)
+
+-- ---- 13: "not A's own point: a coordinate worked out afresh is not finite, or its bits differ"
+
+unfoldable pub finitePoint : Point3D → Bool
+finitePoint p = finite (p .x) && (finite (p .y) && finite (p .z))
+
+unfoldable pub samePoint : Point3D → Point3D → Bool
+samePoint p q = sameBits (p .x) (q .x) && (sameBits (p .y) (q .y) && sameBits (p .z) (q .z))
+
+unfoldable pub ownOf : Point3D → Point3D → Bool
+ownOf stored fresh = finitePoint fresh && samePoint stored fresh
+
+-- ---- point i: "14, 13, 15", then 16
+
+-- 14: "a parameter outside a window that has no turn mark; NaN is outside"; 15: "computed gap not at most confusion"
+unfoldable pub pointAnswer : Patch → Patch → Float → Point3D → Parameters → ℕ → Checked
+pointAnswer a b confusion p x i =
+    pick (insideOf a b x)
+    (pick (ownOf p (freshA a x))
+    (pick (distanceOf (freshA a x) (freshB b x) ≤? confusion) Passed (Refused (refusal.Gap i)))
+    (Refused (refusal.NotOwnPoint i)))
+    (Refused (refusal.OutsideWindow i))
+
+-- 16: "computed chord from the point before not at most 0.2, the closing chord not being tested"
+unfoldable pub chordFits : List Float → ℕ → ℕ → ℕ → Bool
+chordFits l count closing i =
+    pick (eqb i 0) true
+    (pick (closingChord count closing i) true
+    (distanceOf (pointAt l i) (pointAt l (i - 1)) ≤? longestChord))
+
+unfoldable pub answerAt : Patch → Patch → Float → List Float → ℕ → ℕ → ℕ → Checked
+answerAt a b confusion l count closing i =
+    andThen (pointAnswer a b confusion (pointAt l i) (parametersAt l i) i) (asked (chordFits l count closing i) (refusal.Chord i))
+
+-- "then point by point": the first refusal is the answer
+abbrev pub stopped : Checked → Flow (Unit {0}) Checked
+stopped (Refused r) = out (Refused r)
+stopped Passed = on tt
+
+abbrev pub pointTurn : Patch → Patch → Float → List Float → ℕ → ℕ → ℕ → Unit {0} → Flow (Unit {0}) Checked
+pointTurn a b confusion l count closing i s = stopped (answerAt a b confusion l count closing i)
+
+abbrev pub allPassed : Unit {0} → Checked
+allPassed s = Passed
+
+unfoldable pub pointsAnswer : Patch → Patch → Float → List Float → ℕ → ℕ → Checked
+pointsAnswer a b confusion l count closing = searched (pointTurn a b confusion l count closing) allPassed 0 count (on tt)
+
+-- ---- 12: "count outside 4 to 4001, start index not below the count, closing code above 2, or a closing that isn't so"
+
+unfoldable pub sameRow : Row → Row → Bool
+sameRow p q =
+    sameBits (p .x) (q .x)
+    && (sameBits (p .y) (q .y)
+    && (sameBits (p .z) (q .z)
+    && (sameBits (p .u1) (q .u1)
+    && (sameBits (p .v1) (q .v1)
+    && (sameBits (p .u2) (q .u2)
+    && sameBits (p .v2) (q .v2))))))
+
+-- "code 1, start index 0 and the last seven numbers equal the first seven in bits; code 2, start index at least 2 and the first seven
+-- equal the start's in bits"
+unfoldable pub closingSo : List Float → ℕ → ℕ → ℕ → Bool
+closingSo l count start closing =
+    pick (eqb closing 0) true
+    (pick (eqb closing 1) (pick (eqb start 0) (sameRow (rowOf l (count - 1)) (rowOf l 0)) false)
+    (pick (eqb closing 2) (pick (ltb start 2) false (sameRow (rowOf l 0) (rowOf l start))) false))
+
+unfoldable pub claimSo : List Float → ℕ → ℕ → ℕ → Bool
+claimSo l count start closing =
+    pick (ltb count 4) false
+    (pick (ltb 4001 count) false
+    (pick (ltb start count) (closingSo l count start closing) false))
+
+-- ---- the whole
+
+-- "1 to 4" of a surface
+abbrev pub fitOf : Fitness → Checked
+fitOf (Unfit r) = Refused r
+fitOf Fit = Passed
+
+-- "A, B, 5, 8, 12"
+unfoldable pub claimAnswer : Patch → Patch → Tolerance → List Float → ℕ → ℕ → ℕ → Checked
+claimAnswer a b tol l count start closing =
+    andThen (fitOf (fitnessOf a))
+    (andThen (fitOf (fitnessOf b))
+    (pick (toleranceFit tol)
+    (pick (holdsOf width l count) (asked (claimSo l count start closing) refusal.Claim) (Refused refusal.Lent))
+    (Refused refusal.Tolerance)))
+
+-- "Check: A, B, 5, 8, 12, then point by point 14, 13, 15, 16"
+unfoldable pub checkOf : Patch → Patch → Tolerance → List Float → ℕ → ℕ → ℕ → Checked
+checkOf a b tol l count start closing =
+    andThen (claimAnswer a b tol l count start closing) (pointsAnswer a b (tol .confusion) l count closing)

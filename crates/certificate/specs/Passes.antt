@@ -1,0 +1,80 @@
+-- What it means that a trace passes: the mission's conditions, one by one. Definitions only.
+use mathlib.Core.Path.{_≡_}
+use mathlib.Core.Bool.{Bool, false}
+use mathlib.Core.List.{List}
+use Prim.Native.Nat.{ℕ, _-_, _*_, _≤_, _<_}
+use lib.Dec.{T, eqb}
+use lib.ListN.{length}
+use lib.Ieee.{Float}
+use lib.Ieee.Scale.{finite}
+use Rattle.loops.specs.Loop.{pick}
+use Rattle.number.specs.Operators.{bits, _≤?_}
+use Rattle.groups.specs.Groups.{width}
+use Rattle.groups.specs.Row.{rowAt}
+use Rattle.geometry.specs.declared.point.Point3D.{Point3D}
+use Rattle.geometry.specs.declared.tolerance.Tolerance.{Tolerance}
+use Rattle.geometry.specs.Point.{distanceOf}
+use Rattle.geometry.specs.Tolerance.{toleranceFit}
+use Rattle.analytic.specs.Surface.{evalPoint}
+use Rattle.patch.specs.declared.patch.Patch.{Patch}
+use Rattle.patch.specs.declared.patch.Parameters.{Parameters}
+use Rattle.patch.specs.declared.patch.Fitness.the-variants.{Fit}
+use Rattle.patch.specs.Patch.{fitnessOf, insideOf}
+
+-- the coordinates of point i, and the parameters beside them
+abbrev pub pointAt : List Float → ℕ → Point3D
+pointAt l i = record { x = rowAt l i .x; y = rowAt l i .y; z = rowAt l i .z }
+
+abbrev pub parametersAt : List Float → ℕ → Parameters
+parametersAt l i = record { u1 = rowAt l i .u1; v1 = rowAt l i .v1; u2 = rowAt l i .u2; v2 = rowAt l i .v2 }
+
+-- "A's and B's points, both worked out afresh at its parameters"
+abbrev pub freshA : Patch → Parameters → Point3D
+freshA a x = evalPoint (a .surface) (x .u1) (x .v1)
+
+abbrev pub freshB : Patch → Parameters → Point3D
+freshB b x = evalPoint (b .surface) (x .u2) (x .v2)
+
+-- 0.2, the number of refusal 16
+abbrev pub longestChord : Float
+longestChord = bits 0x3FC9_9999_9999_999A
+
+-- "The closing chord is the last under code 1, the first under code 2; an open trace has none": chord i comes to point i from the one before
+abbrev pub closingChord : ℕ → ℕ → ℕ → Bool
+closingChord count closing i = pick (eqb closing 1) (eqb i (count - 1)) (pick (eqb closing 2) (eqb i 1) false)
+
+-- point i is A's own for the parameters beside it (equal as values of the logic, which has one NaN and two zeros: equal in bits), inside the
+-- windows that apply, and its computed gap to B is at most the confusion
+pub record PointPasses (a b : Patch) (tol : Tolerance) (l : List Float) (i : ℕ) : Type 0 where
+  pub inside : T (insideOf a b (parametersAt l i))
+  pub finite-x : T (finite (freshA a (parametersAt l i) .x))
+  pub finite-y : T (finite (freshA a (parametersAt l i) .y))
+  pub finite-z : T (finite (freshA a (parametersAt l i) .z))
+  pub own : pointAt l i ≡ freshA a (parametersAt l i)
+  pub gap : T (distanceOf (freshA a (parametersAt l i)) (freshB b (parametersAt l i)) ≤? tol .confusion)
+
+-- "A closing is so when": an open trace claims nothing
+pub data ClosedAs (l : List Float) (count start closing : ℕ) : Type 0 where
+  claimed-open : closing ≡ 0 → ClosedAs l count start closing
+  -- "code 1, start index 0 and the last seven numbers equal the first seven in bits"
+  forward : closing ≡ 1 → start ≡ 0 → rowAt l (count - 1) ≡ rowAt l 0 → ClosedAs l count start closing
+  -- "code 2, start index at least 2 and the first seven equal the start's in bits"
+  backward : closing ≡ 2 → 2 ≤ start → rowAt l 0 ≡ rowAt l start → ClosedAs l count start closing
+
+-- the trace of `count` points at the head of the list l passes
+pub record Passes (a b : Patch) (tol : Tolerance) (l : List Float) (count start closing : ℕ) : Type 0 where
+  -- surfaces and tolerance are fit ("when 1 to 5 let them through")
+  pub fitA : fitnessOf a ≡ Fit
+  pub fitB : fitnessOf b ≡ Fit
+  pub tolerance : T (toleranceFit tol)
+  -- all its numbers are lent
+  pub lent : width * count ≤ length l
+  -- 4 to 4001 points, the start among them
+  pub least : 4 ≤ count
+  pub most : count ≤ 4001
+  pub among : start < count
+  -- closed as it claims
+  pub closed : ClosedAs l count start closing
+  pub points : (i : ℕ) → i < count → PointPasses a b tol l i
+  -- no computed chord but the closing one is above 0.2
+  pub chords : (i : ℕ) → 0 < i → i < count → closingChord count closing i ≡ false → T (distanceOf (pointAt l i) (pointAt l (i - 1)) ≤? longestChord)

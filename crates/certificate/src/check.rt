@@ -1,0 +1,316 @@
+use geometry::Point3D;
+use geometry::Tolerance;
+use groups::Row;
+use patch::Fitness;
+use patch::Parameters;
+use patch::Patch;
+use refusal::Refusal;
+ghost use mathlib.Core.Path.{_≡_};
+ghost use Prim.Native.Nat.{_+_, _*_, _≤_, _<_};
+ghost use lib.ListN.{length};
+ghost use Rattle.groups.specs.Groups.{width};
+ghost use Rattle.certificate.specs.declared.check.Checked.the-variants.{Passed};
+ghost use Rattle.certificate.specs.Passes.{pointAt, parametersAt, closingChord, Passes};
+ghost use Rattle.certificate.specs.Check.{finitePoint, samePoint, ownOf, pointAnswer, chordFits, answerAt, pointsAnswer, sameRow, closingSo, claimSo, claimAnswer, checkOf};
+
+// The answer of the public check.
+pub enum Checked {
+    Passed,
+    Refused(Refusal),
+}
+
+// The coordinates of point i of a lent trace.
+fn point_at(points: &[f64], i: usize) -> Point3D
+    requires { ⌜ width * i + width ≤ length (now points) ⌝ }
+    ensures { λ r. ⌜ r ≡ pointAt (now (points .entry)) i ⌝ }
+{
+    let at = groups::WIDTH * i;
+    Point3D {
+        x: points[at],
+        y: points[at + 1],
+        z: points[at + 2],
+    }
+}
+
+// The parameters beside them.
+fn parameters_at(points: &[f64], i: usize) -> Parameters
+    requires { ⌜ width * i + width ≤ length (now points) ⌝ }
+    ensures { λ r. ⌜ r ≡ parametersAt (now (points .entry)) i ⌝ }
+{
+    let at = groups::WIDTH * i;
+    Parameters {
+        u1: points[at + 3],
+        v1: points[at + 4],
+        u2: points[at + 5],
+        v2: points[at + 6],
+    }
+}
+
+fn finite_point(p: Point3D) -> bool
+    ensures { λ r. ⌜ r ≡ finitePoint p ⌝ }
+{
+    if number::is_finite(p.x) {
+        if number::is_finite(p.y) {
+            number::is_finite(p.z)
+        } else {
+            false
+        }
+    } else {
+        false
+    }
+}
+
+fn same_point(p: Point3D, q: Point3D) -> bool
+    ensures { λ r. ⌜ r ≡ samePoint p q ⌝ }
+{
+    if number::same_bits(p.x, q.x) {
+        if number::same_bits(p.y, q.y) {
+            number::same_bits(p.z, q.z)
+        } else {
+            false
+        }
+    } else {
+        false
+    }
+}
+
+// What refusal 13 lets through.
+fn own(stored: Point3D, fresh: Point3D) -> bool
+    ensures { λ r. ⌜ r ≡ ownOf stored fresh ⌝ }
+{
+    if finite_point(fresh) {
+        same_point(stored, fresh)
+    } else {
+        false
+    }
+}
+
+// Refusals 14, 13 and 15 of a point p with the parameters x beside it.
+fn point_answer(a: Patch, b: Patch, confusion: f64, p: Point3D, x: Parameters, i: usize) -> Checked
+    ensures { λ r. ⌜ r ≡ pointAnswer a b confusion p x i ⌝ }
+{
+    if !patch::inside(a, b, x) {
+        return Checked::Refused(Refusal::OutsideWindow(i as u64));
+    }
+    let on = a.surface;
+    let fresh = on.eval_point(x.u1, x.v1);
+    if !own(p, fresh) {
+        return Checked::Refused(Refusal::NotOwnPoint(i as u64));
+    }
+    let other = b.surface;
+    if fresh.distance(other.eval_point(x.u2, x.v2)) <= confusion {
+        Checked::Passed
+    } else {
+        Checked::Refused(Refusal::Gap(i as u64))
+    }
+}
+
+// Whether the chord to point i from the one before is the closing one.
+fn closing_chord(count: usize, closing: usize, i: usize) -> bool
+    requires { ⌜ 0 < count ⌝ }
+    ensures { λ r. ⌜ r ≡ closingChord count closing i ⌝ }
+{
+    if closing == 1 {
+        return i == count - 1;
+    }
+    if closing == 2 {
+        return i == 1;
+    }
+    false
+}
+
+// What refusal 16 lets through.
+fn chord_fits(points: &[f64], count: usize, closing: usize, i: usize) -> bool
+    requires { ⌜ (i < count) × (width * count ≤ length (now points)) ⌝ }
+    ensures { λ r. ⌜ r ≡ chordFits (now (points .entry)) count closing i ⌝ }
+{
+    if i == 0 {
+        return true;
+    }
+    if closing_chord(count, closing, i) {
+        return true;
+    }
+    let p = point_at(points, i);
+    p.distance(point_at(points, i - 1)) <= 0.2
+}
+
+// Refusals 14, 13, 15 and 16 of point i.
+fn answer_at(
+    a: Patch,
+    b: Patch,
+    confusion: f64,
+    points: &[f64],
+    count: usize,
+    closing: usize,
+    i: usize,
+) -> Checked
+    requires { ⌜ (i < count) × (width * count ≤ length (now points)) ⌝ }
+    ensures { λ r. ⌜ r ≡ answerAt a b confusion (now (points .entry)) count closing i ⌝ }
+{
+    let p = point_at(points, i);
+    let x = parameters_at(points, i);
+    let answer = point_answer(a, b, confusion, p, x, i);
+    match answer {
+        Checked::Refused(refusal) => Checked::Refused(refusal),
+        Checked::Passed => {
+            if chord_fits(points, count, closing, i) {
+                Checked::Passed
+            } else {
+                Checked::Refused(Refusal::Chord(i as u64))
+            }
+        }
+    }
+}
+
+// The first refusal of a point.
+fn points_answer(
+    a: Patch,
+    b: Patch,
+    confusion: f64,
+    points: &[f64],
+    count: usize,
+    closing: usize,
+) -> Checked
+    requires { ⌜ width * count ≤ length (now points) ⌝ }
+    ensures { λ r. ⌜ r ≡ pointsAnswer a b confusion (now (points .entry)) count closing ⌝ }
+{
+    for i in 0..count {
+        let answer = answer_at(a, b, confusion, points, count, closing, i);
+        match answer {
+            Checked::Refused(refusal) => {
+                return Checked::Refused(refusal);
+            }
+            Checked::Passed => {}
+        }
+    }
+    Checked::Passed
+}
+
+// Whether all seven numbers of two points are equal in bits.
+fn same_row(p: Row, q: Row) -> bool
+    ensures { λ r. ⌜ r ≡ sameRow p q ⌝ }
+{
+    if !number::same_bits(p.x, q.x) {
+        return false;
+    }
+    if !number::same_bits(p.y, q.y) {
+        return false;
+    }
+    if !number::same_bits(p.z, q.z) {
+        return false;
+    }
+    if !number::same_bits(p.u1, q.u1) {
+        return false;
+    }
+    if !number::same_bits(p.v1, q.v1) {
+        return false;
+    }
+    if !number::same_bits(p.u2, q.u2) {
+        return false;
+    }
+    number::same_bits(p.v2, q.v2)
+}
+
+// Whether the trace is closed as the code says: 0 open, 1 forward, 2 backward.
+fn closing_so(points: &[f64], count: usize, start: usize, closing: usize) -> bool
+    requires { ⌜ 0 < count ⌝ }
+    ensures { λ r. ⌜ r ≡ closingSo (now (points .entry)) count start closing ⌝ }
+{
+    if closing == 0 {
+        return true;
+    }
+    if closing == 1 {
+        if start == 0 {
+            return same_row(
+                groups::row::row_of(points, count - 1),
+                groups::row::row_of(points, 0),
+            );
+        }
+        return false;
+    }
+    if closing == 2 {
+        if start < 2 {
+            return false;
+        }
+        return same_row(
+            groups::row::row_of(points, 0),
+            groups::row::row_of(points, start),
+        );
+    }
+    false
+}
+
+// What refusal 12 lets through.
+fn claim_so(points: &[f64], count: usize, start: usize, closing: usize) -> bool
+    ensures { λ r. ⌜ r ≡ claimSo (now (points .entry)) count start closing ⌝ }
+{
+    if count < 4 {
+        return false;
+    }
+    if 4001 < count {
+        return false;
+    }
+    if start < count {
+        closing_so(points, count, start, closing)
+    } else {
+        false
+    }
+}
+
+// The refusals before the points: A's 1 to 4, B's, 5, 8, 12.
+fn claim_answer(
+    a: Patch,
+    b: Patch,
+    tol: Tolerance,
+    points: &[f64],
+    count: usize,
+    start: usize,
+    closing: usize,
+) -> Checked
+    ensures { λ r. ⌜ r ≡ claimAnswer a b tol (now (points .entry)) count start closing ⌝ }
+{
+    let fit_a = a.fitness();
+    match fit_a {
+        Fitness::Unfit(refusal) => {
+            return Checked::Refused(refusal);
+        }
+        Fitness::Fit => {}
+    }
+    let fit_b = b.fitness();
+    match fit_b {
+        Fitness::Unfit(refusal) => {
+            return Checked::Refused(refusal);
+        }
+        Fitness::Fit => {}
+    }
+    if !tol.is_fit() {
+        return Checked::Refused(Refusal::Tolerance);
+    }
+    if !groups::holds(points, count) {
+        return Checked::Refused(Refusal::Lent);
+    }
+    if claim_so(points, count, start, closing) {
+        Checked::Passed
+    } else {
+        Checked::Refused(Refusal::Claim)
+    }
+}
+
+// Whether a trace of `count` points at the head of the list passes: refusals A's 1 to 4, B's, 5, 8, 12, then point by point 14, 13, 15, 16.
+pub fn check(
+    a: Patch,
+    b: Patch,
+    tol: Tolerance,
+    trace: &[f64],
+    count: usize,
+    start: usize,
+    closing: usize,
+) -> Checked
+    ensures { λ r. ⌜ (r ≡ checkOf a b tol (now (trace .entry)) count start closing) × (r ≡ Passed → Passes a b tol (now (trace .entry)) count start closing) × (Passes a b tol (now (trace .entry)) count start closing → r ≡ Passed) ⌝ }
+{
+    let claim = claim_answer(a, b, tol, trace, count, start, closing);
+    match claim {
+        Checked::Refused(refusal) => Checked::Refused(refusal),
+        Checked::Passed => points_answer(a, b, tol.confusion, trace, count, closing),
+    }
+}

@@ -1,0 +1,39 @@
+-- The numbers of one point. Definitions only.
+use mathlib.Core.List.{List, [], _∷_}
+use Prim.Native.Nat.{ℕ, _+_, _*_, _/_}
+use lib.Dec.{ltb}
+use lib.ListN.{length, getD}
+use lib.Ieee as Ieee
+use lib.Ieee.{Float, nan, binary64}
+use Rattle.loops.specs.Loop.{pick}
+use Rattle.groups.specs.declared.row.Row.{Row}
+use Rattle.groups.specs.Groups.{width}
+
+-- "seven numbers a point first: x, y, z, then u, v on A and u, v on B"
+abbrev pub numbersOf : Row → List Float
+numbersOf r = r .x ∷ r .y ∷ r .z ∷ r .u1 ∷ r .v1 ∷ r .u2 ∷ r .v2 ∷ []
+
+-- the numbers of the point that stands from index `at` on, and of point i
+abbrev pub rowFrom : List Float → ℕ → Row
+rowFrom l at = record {
+  x = getD l at nan;
+  y = getD l (at + 1) nan;
+  z = getD l (at + 2) nan;
+  u1 = getD l (at + 3) nan;
+  v1 = getD l (at + 4) nan;
+  u2 = getD l (at + 5) nan;
+  v2 = getD l (at + 6) nan;
+}
+
+abbrev pub rowAt : List Float → ℕ → Row
+rowAt l i = rowFrom l (width * i)
+
+abbrev pub zero : Float
+zero = Ieee.ofBits binary64 0
+
+abbrev pub noRow : Row
+noRow = record { x = zero; y = zero; z = zero; u1 = zero; v1 = zero; u2 = zero; v2 = zero }
+
+-- the same for any list: zeros where it has no point i
+unfoldable pub rowOf : List Float → ℕ → Row
+rowOf l i = pick (ltb i (length l / width)) (rowAt l i) noRow
