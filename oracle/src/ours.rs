@@ -1,6 +1,6 @@
 //! The sine, cosine and arc tangent of two arguments that the oracle gets, since Rust leaves the precision of its own open: fdlibm 5.3's
 //! algorithms and constants (NOTICE has its terms) with the scope's reach, ported so that the oracle calls nothing of the proved code.
-//! `compare fdlibm` holds them to the proved ones.
+//! `compare fdlibm` holds them to the proved ones. Sine and cosine are inlined, which the timings gain by.
 
 const REACH: u32 = 0x4139_21fb;
 
@@ -14,6 +14,7 @@ fn exponent(x: f64) -> i32 {
 }
 
 /// `__kernel_sin`: `tail` is `iy`, whether y is to be used.
+#[inline(always)]
 fn kernel_sin(x: f64, y: f64, tail: bool) -> f64 {
     if high(x) < 0x3e40_0000 {
         return x;
@@ -33,6 +34,7 @@ fn kernel_sin(x: f64, y: f64, tail: bool) -> f64 {
 }
 
 /// `__kernel_cos`.
+#[inline(always)]
 fn kernel_cos(x: f64, y: f64) -> f64 {
     let ix = high(x);
     if ix < 0x3e40_0000 {
@@ -100,6 +102,7 @@ const PIO2_3: f64 = 2.022_266_248_711_166_455_80e-21;
 const PIO2_3T: f64 = 8.478_427_660_368_899_569_97e-32;
 
 /// `__ieee754_rem_pio2` within reach: the quadrant (0 to 3) and the two parts of what is left; none beyond reach.
+#[inline(always)]
 fn reduce(x: f64) -> Option<(u32, f64, f64)> {
     let ix = high(x);
     let negative = x.is_sign_negative();
@@ -148,6 +151,7 @@ fn reduce(x: f64) -> Option<(u32, f64, f64)> {
     }
 }
 
+#[inline(always)]
 pub(crate) fn sin(x: f64) -> f64 {
     let ix = high(x);
     if ix <= 0x3fe9_21fb {
@@ -165,6 +169,7 @@ pub(crate) fn sin(x: f64) -> f64 {
     }
 }
 
+#[inline(always)]
 pub(crate) fn cos(x: f64) -> f64 {
     let ix = high(x);
     if ix <= 0x3fe9_21fb {

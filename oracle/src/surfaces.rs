@@ -47,6 +47,7 @@ impl Patch {
         }
     }
 
+    #[inline(always)]
     fn derivative(&self, u: f64, v: f64, du: u32, dv: u32) -> Vector3D {
         let (f, [r, s]) = (&self.frame, self.sizes);
         match self.kind {
@@ -76,6 +77,7 @@ impl ParametricSurface for Patch {
         }
     }
 
+    #[inline(always)]
     fn eval_d1(&self, u: f64, v: f64) -> (Point3D, [Vector3D; 2]) {
         let d = [self.derivative(u, v, 1, 0), self.derivative(u, v, 0, 1)];
         (self.eval_point(u, v), d)

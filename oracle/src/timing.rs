@@ -199,9 +199,9 @@ fn traces(rounds: u32) {
     }
 }
 
-/// Prints the tables.
+/// Prints the tables. Short passes get more rounds.
 pub fn run(rounds: u32) {
-    numbers(rounds);
-    crossings(rounds);
+    numbers(100 * rounds);
+    crossings(20 * rounds);
     traces(rounds);
 }
