@@ -45,6 +45,14 @@ unsafe extern "C" {
         start: u64,
         code: u64,
     ) -> u64;
+    fn geomcore_point(
+        surface: *const u8,
+        bytes: usize,
+        u: f64,
+        v: f64,
+        out: *mut f64,
+        outputs: usize,
+    ) -> u64;
     pub(crate) safe fn geomcore_sqrt(x: f64) -> f64;
     pub(crate) safe fn geomcore_sin(x: f64) -> f64;
     pub(crate) safe fn geomcore_cos(x: f64) -> f64;
@@ -72,4 +80,11 @@ pub(crate) fn check(job: &[u8], buffer: &[f64], count: u64, start: u64, code: u6
             code,
         )
     }
+}
+
+/// The answer word of the public point.
+pub(crate) fn point(surface: &[u8], u: f64, v: f64, out: &mut [f64]) -> u64 {
+    let (bytes, outputs) = (surface.len(), out.len());
+    // SAFETY: as in `crossing`.
+    unsafe { geomcore_point(surface.as_ptr(), bytes, u, v, out.as_mut_ptr(), outputs) }
 }

@@ -52,7 +52,7 @@ impl Side {
         })
     }
 
-    fn write(&self, out: &mut Vec<u8>) {
+    pub(crate) fn write(&self, out: &mut Vec<u8>) {
         out.extend([self.kind, self.marks]);
         out.extend(self.numbers.iter().flat_map(|x| x.to_bits().to_be_bytes()));
     }
