@@ -1,9 +1,11 @@
 //! The Rust that the proved code is compared with, and the comparisons.
 
 mod capi;
+mod check;
 pub mod compare;
 mod frame;
 mod intersect;
+mod job;
 mod math;
 mod ours;
 mod patch;
@@ -12,10 +14,11 @@ mod point;
 mod probe;
 pub mod random;
 pub mod speed;
-mod surface;
 mod surface_math;
 mod surfaces;
+pub mod timing;
 mod tolerance;
+mod trace;
 #[allow(dead_code)]
 mod vector;
 

@@ -4,7 +4,7 @@ use crate::compare::marching::{Timed, timed};
 use crate::math::solve::{solve_2x2, solve_3x3, solve_4x4};
 use crate::probe::{self, Step};
 use crate::random::Random;
-use crate::surface::Surface;
+use crate::surfaces::{ParametricSurface, Patch};
 use std::hint::black_box;
 use std::time::Instant;
 
@@ -86,32 +86,31 @@ fn solvers(rounds: u32) {
 fn surfaces(rounds: u32) {
     for (kind, name) in KINDS.iter().enumerate() {
         let mut r = Random::new(9);
-        let calls: Vec<(Vec<f64>, Surface, f64, f64)> = (0..1024)
+        let calls: Vec<(Vec<f64>, Patch, f64, f64)> = (0..1024)
             .map(|_| {
                 let mut n: Vec<f64> = (0..12).map(|_| r.signed_unit()).collect();
                 n.extend([1.5, 0.5]);
-                let s = Surface::from_numbers(kind, &n);
+                let s = Patch::from_numbers(kind, 0, &n);
                 (n, s, 3.0 * r.signed_unit(), 3.0 * r.signed_unit())
             })
             .collect();
         let k = kind as u64;
-        let ours = |(n, _, u, v): &(Vec<f64>, Surface, f64, f64)| {
+        let ours = |(n, _, u, v): &(Vec<f64>, Patch, f64, f64)| {
             let mut out = [0.0; 6];
             probe::point(k, n, *u, *v, &mut out);
             out[0]
         };
-        let oracle =
-            |(_, s, u, v): &(Vec<f64>, Surface, f64, f64)| black_box(s.eval_point(*u, *v)).x;
+        let oracle = |(_, s, u, v): &(Vec<f64>, Patch, f64, f64)| black_box(s.eval_point(*u, *v)).x;
         line(
             &format!("point, {name}"),
             least(rounds, &calls, ours, oracle),
         );
-        let ours = |(n, _, u, v): &(Vec<f64>, Surface, f64, f64)| {
+        let ours = |(n, _, u, v): &(Vec<f64>, Patch, f64, f64)| {
             let mut out = [0.0; 6];
             probe::derivatives(k, n, *u, *v, &mut out);
             out[0]
         };
-        let oracle = |(_, s, u, v): &(Vec<f64>, Surface, f64, f64)| {
+        let oracle = |(_, s, u, v): &(Vec<f64>, Patch, f64, f64)| {
             black_box([s.derivative(*u, *v, 1, 0), s.derivative(*u, *v, 0, 1)])[0].x
         };
         line(

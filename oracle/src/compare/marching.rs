@@ -122,7 +122,7 @@ fn patch(r: &mut Random, kind: usize) -> Patch {
 }
 
 /// Whether a direction is an angle.
-fn is_angle(kind: usize, k: usize) -> bool {
+pub(super) fn is_angle(kind: usize, k: usize) -> bool {
     kind > 0 && (k == 0 || kind == 4)
 }
 
@@ -141,7 +141,7 @@ fn parameters(r: &mut Random, kind: usize) -> [f64; 2] {
 }
 
 /// Moves the patch so that its point at `y` is `p`.
-fn through(b: &mut Patch, y: [f64; 2], p: Point3D) {
+pub(super) fn through(b: &mut Patch, y: [f64; 2], p: Point3D) {
     let q = b.eval_point(y[0], y[1]);
     b.frame.origin = b.frame.origin + (p - q);
 }
@@ -241,7 +241,11 @@ fn degenerate(r: &mut Random, s: &mut Patch, x: &mut [f64; 2]) {
 }
 
 /// The two patches, the parameters of a point that they share, and how far the guess is off.
-fn pair(r: &mut Random, kind: usize, kinds: [usize; 2]) -> (Patch, Patch, [f64; 4], f64) {
+pub(super) fn pair(
+    r: &mut Random,
+    kind: usize,
+    kinds: [usize; 2],
+) -> (Patch, Patch, [f64; 4], f64) {
     let (mut a, mut b) = (patch(r, kinds[0]), patch(r, kinds[1]));
     let (mut x, mut y) = (parameters(r, kinds[0]), parameters(r, kinds[1]));
     if kind == 5 && kinds[0] == kinds[1] {
