@@ -1,10 +1,10 @@
 #!/usr/bin/env bash
-# compare_fdlibm.sh [COUNT [SEED]]: COUNT random arguments of each function (10,000,000 if none is said), worked out through the
+# compare_fdlibm.sh [SEED [COUNT]]: COUNT random arguments of each function (10,000,000 if none is said), worked out through the
 # static libraries and compared in bits with Java's StrictMath. Writes a table; fails on any difference.
 set -euo pipefail
 cd "$(dirname "$0")/.."
-count=${1:-10000000}
-seed=${2:-1}
+seed=${1:-1}
+count=${2:-10000000}
 out=target/compare_fdlibm
 mkdir -p "$out"
 rt staticlib capi > "$out/log" 2>&1 || { cat "$out/log"; exit 1; }

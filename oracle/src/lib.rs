@@ -1,9 +1,11 @@
 //! The Rust that the proved code is compared with, and the comparisons.
 
 mod capi;
+mod check;
 pub mod compare;
 mod frame;
 mod intersect;
+mod job;
 mod math;
 mod ours;
 mod patch;
@@ -11,10 +13,12 @@ mod patch;
 mod point;
 mod probe;
 pub mod random;
-mod surface;
+pub mod speed;
 mod surface_math;
 mod surfaces;
+pub mod timing;
 mod tolerance;
+mod trace;
 #[allow(dead_code)]
 mod vector;
 

@@ -25,8 +25,8 @@ fn wrong_mark(kind: usize, marks: u64) -> bool {
     (marks & 1 != 0 && kind == 0) || (marks & 2 != 0 && kind != 4)
 }
 
-/// The number of the refusal of a point, "1 to 4, then 6", or 0: 12 frame numbers, two sizes, low and high of u, then of v.
-pub(crate) fn refusal(kind: usize, marks: u64, n: &[f64], u: f64, v: f64) -> u64 {
+/// The number of a surface's refusal, 1 to 4, or 0: 12 frame numbers, two sizes, low and high of u, then of v.
+pub(crate) fn unfit(kind: usize, marks: u64, n: &[f64]) -> u64 {
     let sizes = [0, 1, 2, 1, 2][kind];
     if n[..12 + sizes].iter().any(|x| wrong_number(*x)) {
         return 1;
@@ -40,8 +40,14 @@ pub(crate) fn refusal(kind: usize, marks: u64, n: &[f64], u: f64, v: f64) -> u64
     if wrong_mark(kind, marks) {
         return 4;
     }
-    if !u.is_finite() || !v.is_finite() {
+    0
+}
+
+/// The number of the refusal of a point, "1 to 4, then 6", or 0.
+pub(crate) fn refusal(kind: usize, marks: u64, n: &[f64], u: f64, v: f64) -> u64 {
+    let number = unfit(kind, marks, n);
+    if number == 0 && (!u.is_finite() || !v.is_finite()) {
         return 6;
     }
-    0
+    number
 }

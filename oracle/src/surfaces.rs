@@ -25,7 +25,30 @@ pub(crate) struct Patch {
 }
 
 impl Patch {
-    fn derivative(&self, u: f64, v: f64, du: u32, dv: u32) -> Vector3D {
+    /// From the job file's numbers: origin, x, y and z direction, two sizes, then low and high of u and of v, all open where they are left
+    /// out. Marks: 1 for u, 2 for v, added.
+    pub(crate) fn from_numbers(kind: usize, marks: u64, n: &[f64]) -> Patch {
+        let vector = |at: usize| Vector3D::new(n[at], n[at + 1], n[at + 2]);
+        let window = |at: usize| match n.get(at..at + 2) {
+            Some(ends) => (ends[0], ends[1]),
+            None => (f64::NEG_INFINITY, f64::INFINITY),
+        };
+        Patch {
+            kind,
+            frame: Frame3D {
+                origin: Point3D::new(n[0], n[1], n[2]),
+                x: vector(3),
+                y: vector(6),
+                z: vector(9),
+            },
+            sizes: [n[12], n[13]],
+            windows: [window(14), window(16)],
+            marks: [marks & 1 != 0, marks & 2 != 0],
+        }
+    }
+
+    #[inline(always)]
+    pub(crate) fn derivative(&self, u: f64, v: f64, du: u32, dv: u32) -> Vector3D {
         let (f, [r, s]) = (&self.frame, self.sizes);
         match self.kind {
             0 => plane_derivative(f, du, dv),
@@ -54,6 +77,7 @@ impl ParametricSurface for Patch {
         }
     }
 
+    #[inline(always)]
     fn eval_d1(&self, u: f64, v: f64) -> (Point3D, [Vector3D; 2]) {
         let d = [self.derivative(u, v, 1, 0), self.derivative(u, v, 0, 1)];
         (self.eval_point(u, v), d)

@@ -1,1 +1,4 @@
+pub mod Answer
+pub mod Point
+pub mod Check
 pub mod Crossing

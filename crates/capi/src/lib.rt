@@ -3,12 +3,20 @@
 //! `rt staticlib capi` writes the archive. A slice passes as a pointer and a length.
 use boxes::Aabb;
 use boxes::Crossed;
+use certificate::Checked;
 use geometry::Point3D;
 use geometry::Tolerance;
+use job::JobRead;
+use job::SurfaceRead;
+use patch::Located;
+use patch::Patch;
 ghost use mathlib.Core.Path.{_≡_};
 ghost use Prim.Native.Nat.{_+_, _≤_};
 ghost use lib.ListN.{length};
+ghost use Rattle.capi.specs.Answer.{answered};
+ghost use Rattle.capi.specs.Check.{checkedWord, checkAnswer};
 ghost use Rattle.capi.specs.Crossing.{wordOf, cornerAt, crossingWord};
+ghost use Rattle.capi.specs.Point.{put3, pointOn, pointAnswer};
 ghost use Rattle.fdlibm.specs.Arctangent.{atan2Of};
 ghost use Rattle.fdlibm.specs.Sine.{sinOf, cosOf};
 ghost use Rattle.sqrt.specs.Sqrt.{sqrtOf};
@@ -43,6 +51,84 @@ pub extern "C" fn geomcore_atan2(y: f64, x: f64) -> f64
     ensures { λ r. ⌜ r ≡ atan2Of y x ⌝ }
 {
     arctangent::atan2(y, x)
+}
+
+// Puts three numbers at the front of `out`.
+fn put(out: &mut [f64], x: f64, y: f64, z: f64)
+    requires { ⌜ 3 ≤ length (now out) ⌝ }
+    ensures { λ r. ⌜ now (out .exit) ≡ put3 (now (out .entry)) x y z ⌝ }
+{
+    out[0] = x;
+    out[1] = y;
+    out[2] = z;
+}
+
+// The point of a surface that is read already.
+fn point_on(patch: Patch, u: f64, v: f64, out: &mut [f64]) -> u64
+    ensures { λ r. ⌜ answered r (now (out .exit)) ≡ pointOn patch u v (now (out .entry)) ⌝ }
+{
+    if out.len() < 3 {
+        return 8;
+    }
+    let located = patch::point::point(patch, u, v);
+    match located {
+        Located::Refused(refusal) => refusal.number(),
+        Located::At(p) => {
+            put(out, p.x, p.y, p.z);
+            0
+        }
+    }
+}
+
+// Puts the point at (u, v) of the surface, given by its 146 bytes of the job file, into the first three numbers of `out`; 0, or the
+// refusal's number, and then nothing is written. 19 is tested first, then 8: fewer than three numbers lent.
+#[no_mangle]
+pub extern "C" fn geomcore_point(surface: &[u8], u: f64, v: f64, out: &mut [f64]) -> u64
+    ensures { λ r. ⌜ answered r (now (out .exit)) ≡ pointAnswer (now (surface .entry)) u v (now (out .entry)) ⌝ }
+{
+    let read = job::file::read_surface(surface);
+    match read {
+        SurfaceRead::Refused(refusal) => refusal.number(),
+        SurfaceRead::Whole(patch) => point_on(patch, u, v, out),
+    }
+}
+
+// The answer's word: the refusal's number, and 2^32 times the index of the point that it names.
+fn checked_word(answer: Checked) -> u64
+    ensures { λ r. ⌜ r ≡ checkedWord answer ⌝ }
+{
+    match answer {
+        Checked::Passed => 0,
+        Checked::Refused(refusal) => {
+            std::num::wrapping_add_u64(refusal.number(), refusal.index() << 32)
+        }
+    }
+}
+
+// Checks a claimed trace against the surfaces and tolerance of a job file; its guess and cap aren't read.
+#[no_mangle]
+pub extern "C" fn geomcore_check(
+    job: &[u8],
+    buffer: &[f64],
+    count: u64,
+    start: u64,
+    code: u64,
+) -> u64
+    ensures { λ r. ⌜ r ≡ checkAnswer (now (job .entry)) (now (buffer .entry)) count start code ⌝ }
+{
+    let read = job::file::read(job);
+    match read {
+        JobRead::Refused(refusal) => refusal.number(),
+        JobRead::Whole(asked) => checked_word(certificate::check::check(
+            asked.a,
+            asked.b,
+            asked.tol,
+            buffer,
+            count as usize,
+            start as usize,
+            code as usize,
+        )),
+    }
 }
 
 // The answer's word: the refusal's number, and 2^8 where the trace is crossed.

@@ -9,7 +9,7 @@ use lib.Ieee.{Float, nan, binary64, fits}
 use lib.Ieee.Fits.{and-l, and-r}
 use Rattle.loops.specs.Loop.{exits}
 use Rattle.number.specs.Operators.{bits}
-use Rattle.number.specs.Helpers.{absOf, sameBits, numberFit}
+use Rattle.number.specs.Helpers.{absOf, numberFit, sameBits}
 use Rattle.sqrt.specs.Sqrt.{sqrtOf}
 use Rattle.groups.specs.Groups.{holdsOf}
 use Rattle.groups.specs.Row.{rowOf}
@@ -17,7 +17,7 @@ use Rattle.refusal.specs.declared.Refusal.the-variants as refusal
 use Rattle.geometry.specs.declared.tolerance.Tolerance.{Tolerance}
 use Rattle.geometry.specs.Tolerance.{toleranceFit}
 use Rattle.geometry.specs.Vector.{vectorOf, scaleOf}
-use Rattle.geometry.specs.Point.{pointFit, pointOf, distanceOf, addVectorOf}
+use Rattle.geometry.specs.Point.{pointOf, distanceOf, addVectorOf, pointFit}
 use Rattle.geometry.specs.Frame.{pointAtOf}
 use Rattle.analytic.specs.declared.surface.Surface.the-variants.{Plane}
 use Rattle.analytic.specs.Analytic.{planeD0}

@@ -3,24 +3,25 @@
 use mathlib.Core.Path.{_≡_, refl, sym, ap, _∙_, subst}
 use mathlib.Core.Logic.{_⊎_, inl, inr}
 use Prim.Native.Nat.{ℕ, _+_, _-_, _*_, _^_, _≤_, _<_}
-use native.Mathlib.Nat.{le-trans, le-of-eq, le-add-right, not-le-of-lt, mul-pos, le-of-mul-le-mul-right}
+use native.Mathlib.Nat.{le-trans, le-of-eq, le-add-right, not-le-of-lt}
 use native.Mathlib.Omega.{arith}
 use mathlib.Core.Bool.{Bool, true, false, not, _&&_}
 use lib.IntN.{natAbs, _-ℤ_}
 use lib.Dec.{T, lit≤, lit<}
 use lib.Pow.{pow-pos}
-use lib.Ieee.{Float, nan, inf, fin, binary64, unlike, round, sum, add, sub, mul, le, ofBits, fits}
+use lib.Ieee.{Float, nan, inf, fin, binary64, add, sub, le, ofBits, fits}
 use lib.Ieee.Fits.{add-fits, sub-fits, mul-fits, and-l, and-r}
 use lib.Ieee.Scale.{grid, finite}
 use Rattle.number.specs.Operators.{bits, _⊕_, _⊖_, _⊗_, _≤?_}
 use Rattle.number.specs.Units.{unit, mag, neg?, inUnits}
-use Rattle.number.proofs.Values.{Is, is-own, whole, round-is-grid, sum-mag, add-is, sub-is, mul-is, apart}
-use Rattle.number.proofs.Rounding.{error, error-whole}
+use Rattle.number.proofs.Values.{Is, is-own, whole, sum-mag, sub-is, apart}
+use Rattle.number.proofs.Rounding.{error-whole}
 use Rattle.number.proofs.Finite.{add-finite, sub-finite, mul-finite}
 use Rattle.number.proofs.Symmetry.{square-swap}
 use Rattle.number.proofs.Sums.{apart-is}
 use Rattle.number.proofs.Order.{le→units, le-through}
 use Rattle.sqrt.specs.Sqrt.{sqrtOf}
+use Rattle.sqrt.proofs.AtMost.{squared, sum-over}
 use Rattle.sqrt.proofs.Laws.{UnderRoot, sqrt-le-finite, sqrt-rooted, sqrt-sign, sqrt-fits}
 use Rattle.geometry.specs.declared.point.Point3D.{Point3D}
 use Rattle.geometry.specs.declared.tolerance.Tolerance.{Tolerance}
@@ -63,43 +64,6 @@ difference-over x y fx fy h =
     let e = sub-is x y (neg? x) (neg? y) (mag x) (mag y) (whole x fx (f .0)) (whole y fy (f .1)) in
     let m : mag (x ⊖ y) ≡ grid binary64 (between x y) unit = ap mag e ∙ sum-mag (neg? x) (neg? y) (mag x) (mag y) (subst (λ (v : Float). T (finite v)) e h) in
     subst (λ (k : ℕ). between x y * (2 ^ 53 - 1) ≤ k * 2 ^ 53) (sym m) (less (between x y) (grid binary64 (between x y) unit) (error-whole (between x y) unit (pow-pos 1074) .1))
-  where
-    less : (d g : ℕ) → d * 2 ^ 53 ≤ g * 2 ^ 53 + d → d * (2 ^ 53 - 1) ≤ g * 2 ^ 53
-    less d g h = omega arith
-
-unlike-self : (s : Bool) → unlike s s ≡ false
-unlike-self true = refl
-unlike-self false = refl
-
--- a computed square is not negative, and the exact one is not much above it
-square-over : (x : Float) → T (fits binary64 x) → T (finite (x ⊗ x))
-    → (Is (x ⊗ x) false (mag (x ⊗ x))) × (mag x * mag x * (2 ^ 53 - 1) ≤ mag (x ⊗ x) * unit * 2 ^ 53 + unit * 2 ^ 52)
-square-over x fx h =
-    let v = whole x fx (mul-finite x x h .0) in
-    let e = mul-is x x (neg? x) (neg? x) (mag x) (mag x) v v ∙ ap (λ (s : Bool). round binary64 s (mag x * mag x) (unit * unit)) (unlike-self (neg? x)) in
-    let i = round-is-grid false (mag x * mag x) (unit * unit) (subst (λ (y : Float). T (finite y)) e h) in
-    let g = grid binary64 (mag x * mag x) (unit * unit) in
-    let m : mag (x ⊗ x) ≡ g = ap mag e ∙ is-own (round binary64 false (mag x * mag x) (unit * unit)) false g i .1 in (
-      subst (λ (k : ℕ). Is (x ⊗ x) false k) (sym m) (subst (λ (y : Float). Is y false g) (sym e) i),
-      subst (λ (k : ℕ). mag x * mag x * (2 ^ 53 - 1) ≤ k * unit * 2 ^ 53 + unit * 2 ^ 52) (sym m)
-          (less (mag x * mag x) g unit (pow-pos 1074) (error (mag x * mag x * unit) (unit * unit) (mul-pos (pow-pos 1074) (pow-pos 1074)) .1)),
-    )
-  where
-    less : (d g l : ℕ) → 0 < l → d * l * 2 ^ 53 ≤ g * (l * l) * 2 ^ 53 + (d * l + l * l * 2 ^ 52) → d * (2 ^ 53 - 1) ≤ g * l * 2 ^ 53 + l * 2 ^ 52
-    less d g l L h = le-of-mul-le-mul-right {k = l} (omega arith) L
-
--- a computed sum of two that are not negative
-sum-over : (x y : Float) (a b : ℕ) → Is x false a → Is y false b → T (finite (x ⊕ y))
-    → (Is (x ⊕ y) false (mag (x ⊕ y))) × ((a + b) * (2 ^ 53 - 1) ≤ mag (x ⊕ y) * 2 ^ 53)
-unfolding sum
-sum-over x y a b p q h =
-    let e : x ⊕ y ≡ round binary64 false (a + b) unit = add-is x y false false a b p q in
-    let i = round-is-grid false (a + b) unit (subst (λ (v : Float). T (finite v)) e h) in
-    let g = grid binary64 (a + b) unit in
-    let m : mag (x ⊕ y) ≡ g = ap mag e ∙ is-own (round binary64 false (a + b) unit) false g i .1 in (
-      subst (λ (k : ℕ). Is (x ⊕ y) false k) (sym m) (subst (λ (v : Float). Is v false g) (sym e) i),
-      subst (λ (k : ℕ). (a + b) * (2 ^ 53 - 1) ≤ k * 2 ^ 53) (sym m) (less (a + b) g (error-whole (a + b) unit (pow-pos 1074) .1)),
-    )
   where
     less : (d g : ℕ) → d * 2 ^ 53 ≤ g * 2 ^ 53 + d → d * (2 ^ 53 - 1) ≤ g * 2 ^ 53
     less d g h = omega arith
@@ -152,11 +116,11 @@ module _ (ax ay az bx by bz c : Float) (hc : T (finite c)) (l : T (sqrtOf (squar
     law : 2 ^ 50 * (squareOf (between ax bx) + squareOf (between ay by) + squareOf (between az bz)) ≤ (2 ^ 50 + 1) * (mag c * mag c)
     unfolding squares
     law =
-        let px = square-over dx (sub-fits binary64 ax bx) (first-two .0) in
-        let py = square-over dy (sub-fits binary64 ay by) (first-two .1) in
-        let pz = square-over dz (sub-fits binary64 az bz) (last-two .1) in
-        let e1 = sum-over (dx ⊗ dx) (dy ⊗ dy) (mag (dx ⊗ dx)) (mag (dy ⊗ dy)) (px .0) (py .0) (last-two .0) in
-        let e2 = sum-over s1 (dz ⊗ dz) (mag s1) (mag (dz ⊗ dz)) (e1 .0) (pz .0) (under .finite-x) in
+        let px = squared dx (sub-fits binary64 ax bx) (first-two .0) in
+        let py = squared dy (sub-fits binary64 ay by) (first-two .1) in
+        let pz = squared dz (sub-fits binary64 az bz) (last-two .1) in
+        let e1 = sum-over (dx ⊗ dx) (dy ⊗ dy) (mag (dx ⊗ dx)) (mag (dy ⊗ dy)) (px .is) (py .is) (last-two .0) in
+        let e2 = sum-over s1 (dz ⊗ dz) (mag s1) (mag (dz ⊗ dz)) (e1 .0) (pz .is) (under .finite-x) in
         let ns = not-neg s (mag s) (e2 .0) in
         let fs = add-fits binary64 s1 (dz ⊗ dz) in
         let g = sqrt-rooted s fs (under .finite-x) ns in
@@ -168,7 +132,7 @@ module _ (ax ay az bx by bz c : Float) (hc : T (finite c)) (l : T (sqrtOf (squar
         (chain (between ax bx) (between ay by) (between az bz) (mag dx) (mag dy) (mag dz) (mag (dx ⊗ dx)) (mag (dy ⊗ dy)) (mag (dz ⊗ dz)) (mag s1) (mag s) (mag (sqrtOf s)) (mag c) (2 ^ 53) (2 ^ 53 - 1) unit (2 ^ 52)
         (lit≤ tt)
         (difference-over ax bx fax fbx (mul-finite dx dx (first-two .0) .0)) (difference-over ay by fay fby (mul-finite dy dy (first-two .1) .0)) (difference-over az bz faz fbz (mul-finite dz dz (last-two .1) .0))
-        (px .1) (py .1) (pz .1) (e1 .1) (e2 .1) (g .over) (le→units (sqrtOf s) c false false (mag (sqrtOf s)) (mag c) vg v l)))
+        (px .over) (py .over) (pz .over) (e1 .1) (e2 .1) (g .over) (le→units (sqrtOf s) c false false (mag (sqrtOf s)) (mag c) vg v l)))
 
 -- ---- for two points
 

@@ -1,5 +1,6 @@
 use crate::vector::Vector3D;
 ghost use mathlib.Core.Path.{_≡_};
+ghost use Rattle.number.specs.Operators.{_≤?_};
 ghost use Rattle.geometry.specs.Point.{pointOf, distanceOf, addVectorOf, fromOf, pointFit};
 
 pub struct Point3D {
@@ -23,6 +24,13 @@ impl Point3D {
         let dy = other.y - self.y;
         let dz = other.z - self.z;
         sqrt::sqrt(dx * dx + dy * dy + dz * dz)
+    }
+
+    // Whether the gap or chord is at most the bound: mostly without its root.
+    pub fn within(self, other: Point3D, bound: f64) -> bool
+        ensures { λ r. ⌜ r ≡ (distanceOf self other ≤? bound) ⌝ }
+    {
+        other.sub(self).magnitude_at_most(bound)
     }
 
     // Point + vector.

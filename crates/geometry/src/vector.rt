@@ -1,4 +1,5 @@
 ghost use mathlib.Core.Path.{_≡_};
+ghost use Rattle.number.specs.Operators.{_≤?_};
 ghost use Rattle.geometry.specs.Vector.{zeroVector, vectorOf, dotOf, crossOf, magnitudeOf, squareMagnitudeOf, addOf, negOf, scaleOf};
 
 pub struct Vector3D {
@@ -53,6 +54,13 @@ impl Vector3D {
         ensures { λ r. ⌜ r ≡ magnitudeOf self ⌝ }
     {
         sqrt::sqrt(self.square_magnitude())
+    }
+
+    // Whether the magnitude is at most the bound: mostly without its root.
+    pub fn magnitude_at_most(self, bound: f64) -> bool
+        ensures { λ r. ⌜ r ≡ (magnitudeOf self ≤? bound) ⌝ }
+    {
+        sqrt::at_most(self.square_magnitude(), bound)
     }
 
     pub fn add(self, other: Vector3D) -> Vector3D

@@ -40,7 +40,7 @@ fn near(a: Patch, b: Patch, s: Residual, bound: f64) -> bool
 {
     let f = s.f;
     let x = s.x;
-    if f.magnitude() <= bound {
+    if f.magnitude_at_most(bound) {
         if number::abs(s.r) <= bound {
             inside(a, b, x)
         } else {

@@ -33,6 +33,10 @@ scaleOf n m = ranged (addRow n m) 0 n (bits 0x8000_0000_0000_0000)
 abbrev pub greaterOf : Float → Float → ℕ → ℕ → ℕ
 greaterOf held entry pivot row = pick (absOf held <? absOf entry) row pivot
 
+-- the entry that is held after it
+abbrev pub heldOf : Float → Float → Float
+heldOf held entry = pick (absOf held <? absOf entry) entry held
+
 -- the better of two rows in column col
 abbrev pub better : List (List Float) → ℕ → ℕ → ℕ → ℕ
 better m col row pivot = greaterOf (cell m pivot col) (cell m row col) pivot row

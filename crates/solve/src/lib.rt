@@ -8,7 +8,7 @@ ghost use mathlib.Core.List.{[]};
 ghost use lib.Ieee.{nan};
 ghost use lib.ListN.{length};
 ghost use Prim.Native.Nat.{_<_, _≤_};
-ghost use Rattle.solve.specs.Solve.{solve3Of, solve4Of, magnitudesOf, scaleOf, greaterOf, pivotOf, swapOf, lessOf, system, clearedOf, restOf, backOf};
+ghost use Rattle.solve.specs.Solve.{solve3Of, solve4Of, magnitudesOf, scaleOf, greaterOf, heldOf, pivotOf, swapOf, lessOf, system, clearedOf, restOf, backOf};
 
 pub struct Solution3 {
     pub x0: f64,
@@ -45,14 +45,23 @@ fn magnitudes(row: &[f64], n: usize, sum: f64) -> f64
     sum
 }
 
+// A row, and its entry in the column that is looked at.
+struct Held {
+    row: usize,
+    entry: f64,
+}
+
 // The row, where its entry is greater in magnitude than the one held so far; else the pivot so far. A NaN is never greater.
-fn greater(held: f64, entry: f64, pivot: usize, row: usize) -> usize
-    ensures { λ r. ⌜ r ≡ greaterOf held entry pivot row ⌝ }
+fn greater(held: f64, entry: f64, pivot: usize, row: usize) -> Held
+    ensures { λ r. ⌜ (r .row ≡ greaterOf held entry pivot row) × (r .entry ≡ heldOf held entry) ⌝ }
 {
     if number::abs(held) < number::abs(entry) {
-        row
+        Held { row, entry }
     } else {
-        pivot
+        Held {
+            row: pivot,
+            entry: held,
+        }
     }
 }
 
@@ -118,13 +127,16 @@ fn pivot3(m: [[f64; 3]; 3], col: usize) -> usize
     ensures { λ r. ⌜ (r ≡ pivotOf 3 m col) × (r < 3) ⌝ }
 {
     let mut pivot = col;
+    let mut held = m[col][col];
     for row in col + 1..3 {
-        pivot = greater(m[pivot][col], m[row][col], pivot, row);
+        let best = greater(held, m[row][col], pivot, row);
+        pivot = best.row;
+        held = best.entry;
     }
     pivot
 }
 
-fn swap_rows3(m: [[f64; 3]; 3], i: usize, j: usize) -> [[f64; 3]; 3]
+fn swapped_rows3(m: [[f64; 3]; 3], i: usize, j: usize) -> [[f64; 3]; 3]
     requires { ⌜ (i < 3) × (j < 3) ⌝ }
     ensures { λ r. ⌜ r ≡ swapOf [] m i j ⌝ }
 {
@@ -135,7 +147,18 @@ fn swap_rows3(m: [[f64; 3]; 3], i: usize, j: usize) -> [[f64; 3]; 3]
     m
 }
 
-fn swap3(b: [f64; 3], i: usize, j: usize) -> [f64; 3]
+fn swap_rows3(m: [[f64; 3]; 3], i: usize, j: usize) -> [[f64; 3]; 3]
+    requires { ⌜ (i < 3) × (j < 3) ⌝ }
+    ensures { λ r. ⌜ r ≡ swapOf [] m i j ⌝ }
+{
+    match j {
+        0 => swapped_rows3(m, i, 0),
+        1 => swapped_rows3(m, i, 1),
+        _ => swapped_rows3(m, i, 2),
+    }
+}
+
+fn swapped3(b: [f64; 3], i: usize, j: usize) -> [f64; 3]
     requires { ⌜ (i < 3) × (j < 3) ⌝ }
     ensures { λ r. ⌜ r ≡ swapOf nan b i j ⌝ }
 {
@@ -144,6 +167,17 @@ fn swap3(b: [f64; 3], i: usize, j: usize) -> [f64; 3]
     b[i] = b[j];
     b[j] = x;
     b
+}
+
+fn swap3(b: [f64; 3], i: usize, j: usize) -> [f64; 3]
+    requires { ⌜ (i < 3) × (j < 3) ⌝ }
+    ensures { λ r. ⌜ r ≡ swapOf nan b i j ⌝ }
+{
+    match j {
+        0 => swapped3(b, i, 0),
+        1 => swapped3(b, i, 1),
+        _ => swapped3(b, i, 2),
+    }
 }
 
 // The matrix with the rows below col cleared in column col; the right side follows in place.
@@ -175,24 +209,33 @@ fn back3(m: [[f64; 3]; 3], b: [f64; 3]) -> [f64; 3]
 }
 
 // The 3 by 3 system by Gaussian elimination with partial pivoting, or Singular where a pivot is at most tol times the scale.
+// The columns one by one: with each index written out the rows stay in registers.
 pub fn solve_3x3(a: [[f64; 3]; 3], b: [f64; 3], tol: f64) -> Solved3
     ensures { λ r. ⌜ r ≡ solve3Of a b tol ⌝ }
 {
     let scale = scale3(a);
-    let mut m = a;
-    let mut b = b;
-    for col in 0..3 {
-        let pivot = pivot3(m, col);
-        let rows = swap_rows3(m, col, pivot);
-        let mut right = swap3(b, col, pivot);
-        if cramer::gives_up(rows[col][col], tol, scale) {
-            return Solved3::Singular;
-        }
-        let cleared = eliminate3(rows, &mut right, col);
-        m = cleared;
-        b = right;
+    let k0 = pivot3(a, 0);
+    let r0 = swap_rows3(a, 0, k0);
+    let mut b0 = swap3(b, 0, k0);
+    if cramer::gives_up(r0[0][0], tol, scale) {
+        return Solved3::Singular;
     }
-    let x = back3(m, b);
+    let m0 = eliminate3(r0, &mut b0, 0);
+    let k1 = pivot3(m0, 1);
+    let r1 = swap_rows3(m0, 1, k1);
+    let mut b1 = swap3(b0, 1, k1);
+    if cramer::gives_up(r1[1][1], tol, scale) {
+        return Solved3::Singular;
+    }
+    let m1 = eliminate3(r1, &mut b1, 1);
+    let k2 = pivot3(m1, 2);
+    let r2 = swap_rows3(m1, 2, k2);
+    let mut b2 = swap3(b1, 2, k2);
+    if cramer::gives_up(r2[2][2], tol, scale) {
+        return Solved3::Singular;
+    }
+    let m2 = eliminate3(r2, &mut b2, 2);
+    let x = back3(m2, b2);
     Solved3::Solution(Solution3 {
         x0: x[0],
         x1: x[1],
@@ -238,13 +281,16 @@ fn pivot4(m: [[f64; 4]; 4], col: usize) -> usize
     ensures { λ r. ⌜ (r ≡ pivotOf 4 m col) × (r < 4) ⌝ }
 {
     let mut pivot = col;
+    let mut held = m[col][col];
     for row in col + 1..4 {
-        pivot = greater(m[pivot][col], m[row][col], pivot, row);
+        let best = greater(held, m[row][col], pivot, row);
+        pivot = best.row;
+        held = best.entry;
     }
     pivot
 }
 
-fn swap_rows4(m: [[f64; 4]; 4], i: usize, j: usize) -> [[f64; 4]; 4]
+fn swapped_rows4(m: [[f64; 4]; 4], i: usize, j: usize) -> [[f64; 4]; 4]
     requires { ⌜ (i < 4) × (j < 4) ⌝ }
     ensures { λ r. ⌜ r ≡ swapOf [] m i j ⌝ }
 {
@@ -255,7 +301,19 @@ fn swap_rows4(m: [[f64; 4]; 4], i: usize, j: usize) -> [[f64; 4]; 4]
     m
 }
 
-fn swap4(b: [f64; 4], i: usize, j: usize) -> [f64; 4]
+fn swap_rows4(m: [[f64; 4]; 4], i: usize, j: usize) -> [[f64; 4]; 4]
+    requires { ⌜ (i < 4) × (j < 4) ⌝ }
+    ensures { λ r. ⌜ r ≡ swapOf [] m i j ⌝ }
+{
+    match j {
+        0 => swapped_rows4(m, i, 0),
+        1 => swapped_rows4(m, i, 1),
+        2 => swapped_rows4(m, i, 2),
+        _ => swapped_rows4(m, i, 3),
+    }
+}
+
+fn swapped4(b: [f64; 4], i: usize, j: usize) -> [f64; 4]
     requires { ⌜ (i < 4) × (j < 4) ⌝ }
     ensures { λ r. ⌜ r ≡ swapOf nan b i j ⌝ }
 {
@@ -264,6 +322,18 @@ fn swap4(b: [f64; 4], i: usize, j: usize) -> [f64; 4]
     b[i] = b[j];
     b[j] = x;
     b
+}
+
+fn swap4(b: [f64; 4], i: usize, j: usize) -> [f64; 4]
+    requires { ⌜ (i < 4) × (j < 4) ⌝ }
+    ensures { λ r. ⌜ r ≡ swapOf nan b i j ⌝ }
+{
+    match j {
+        0 => swapped4(b, i, 0),
+        1 => swapped4(b, i, 1),
+        2 => swapped4(b, i, 2),
+        _ => swapped4(b, i, 3),
+    }
 }
 
 fn eliminate4(m: [[f64; 4]; 4], b: &mut [f64; 4], col: usize) -> [[f64; 4]; 4]
@@ -296,20 +366,35 @@ pub fn solve_4x4(a: [[f64; 4]; 4], b: [f64; 4], tol: f64) -> Solved4
     ensures { λ r. ⌜ r ≡ solve4Of a b tol ⌝ }
 {
     let scale = scale4(a);
-    let mut m = a;
-    let mut b = b;
-    for col in 0..4 {
-        let pivot = pivot4(m, col);
-        let rows = swap_rows4(m, col, pivot);
-        let mut right = swap4(b, col, pivot);
-        if cramer::gives_up(rows[col][col], tol, scale) {
-            return Solved4::Singular;
-        }
-        let cleared = eliminate4(rows, &mut right, col);
-        m = cleared;
-        b = right;
+    let k0 = pivot4(a, 0);
+    let r0 = swap_rows4(a, 0, k0);
+    let mut b0 = swap4(b, 0, k0);
+    if cramer::gives_up(r0[0][0], tol, scale) {
+        return Solved4::Singular;
     }
-    let x = back4(m, b);
+    let m0 = eliminate4(r0, &mut b0, 0);
+    let k1 = pivot4(m0, 1);
+    let r1 = swap_rows4(m0, 1, k1);
+    let mut b1 = swap4(b0, 1, k1);
+    if cramer::gives_up(r1[1][1], tol, scale) {
+        return Solved4::Singular;
+    }
+    let m1 = eliminate4(r1, &mut b1, 1);
+    let k2 = pivot4(m1, 2);
+    let r2 = swap_rows4(m1, 2, k2);
+    let mut b2 = swap4(b1, 2, k2);
+    if cramer::gives_up(r2[2][2], tol, scale) {
+        return Solved4::Singular;
+    }
+    let m2 = eliminate4(r2, &mut b2, 2);
+    let k3 = pivot4(m2, 3);
+    let r3 = swap_rows4(m2, 3, k3);
+    let mut b3 = swap4(b2, 3, k3);
+    if cramer::gives_up(r3[3][3], tol, scale) {
+        return Solved4::Singular;
+    }
+    let m3 = eliminate4(r3, &mut b3, 3);
+    let x = back4(m3, b3);
     Solved4::Solution(Solution4 {
         x0: x[0],
         x1: x[1],

@@ -133,7 +133,7 @@ module _ (x y : Float) (fx : T (fits binary64 x)) (fy : T (fits binary64 y)) (hx
       (mul-le-mul-right unit (sqrt-mono-units (le-mag x y (own x fx hx nx) (own y fy hy ny) hy l)))
 
 -- ---- a root that is at most a finite number is finite, and what it is the root of is finite, and not below 0
-units-kind : (q k : ℕ) → T (finite (units binary64 false q k)) ⊎ (units binary64 false q k ≡ inf false)
+pub units-kind : (q k : ℕ) → T (finite (units binary64 false q k)) ⊎ (units binary64 false q k ≡ inf false)
 unfolding units
 units-kind q k = go (ltb (q * 2 ^ k) (overflow binary64))
   where

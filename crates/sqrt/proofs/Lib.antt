@@ -6,3 +6,4 @@ pub mod Fields
 pub mod Shape
 pub mod Correct
 pub mod Laws
+pub mod AtMost

@@ -9,6 +9,7 @@ ghost use mathlib.Core.Bool.{true, not};
 ghost use lib.Dec.{T};
 ghost use lib.Ieee.{isNan};
 ghost use Prim.Native.Nat.{_+_, _*_, _^_, _≤_, _<_};
+ghost use Rattle.number.specs.Operators.{_≤?_};
 ghost use Rattle.sqrt.specs.Sqrt.{roundRoot, sqrtOf};
 ghost use Rattle.sqrt.specs.Nearest.{Nearest, Pieces, IsDigit, IsScaled};
 
@@ -74,7 +75,7 @@ fn cubic_for(i: u64) -> Cubic {
         28 => Cubic(0.42968126364, 0.68182613717, 0.12021354959, 0.01271684866),
         29 => Cubic(0.43321799701, 0.67625986251, 0.11729336334, 0.01220617897),
         30 => Cubic(0.43672608792, 0.67082772661, 0.11448951921, 0.01172376424),
-        _ => Cubic(0.44020621877, 0.66552443068, 0.11179563171, 0.01126762614),
+        _ => Cubic(0.44020621857, 0.66552443068, 0.11179563171, 0.01126762614),
     }
 }
 
@@ -98,7 +99,8 @@ fn candidate(m: u64, odd: u64) -> Halves
 }
 
 // Whether high * 2 ^ 27 + low is nearest to the root of a * 2 ^ 52. The difference of the squares is taken in units of 2 ^ 27, so that a candidate
-// within one unit of the limit may be refused, and none is passed that is not nearest.
+// within one unit of the lower limit may be refused, and none is passed that is not nearest. The upper limit is exact: roots of numbers beside a
+// power of 4, as the lengths of unit vectors are, lie just below it.
 fn is_nearest(a: u64, high: u64, low: u64) -> bool
     requires { ⌜ (a < 18014398509481984) × Pieces high low ⌝ }
     ensures { λ r. ⌜ (r ≡ true → Nearest (a * 4503599627370496) (high * 134217728 + low)) ⌝ }
@@ -107,9 +109,10 @@ fn is_nearest(a: u64, high: u64, low: u64) -> bool
     if 274877906944 <= rest {
         return false;
     }
-    let used = 2 * high * low + low * low / 134217728 + 1;
+    let square = low * low;
+    let used = 2 * high * low + square / 134217728 + 1;
     let left = std::num::wrapping_sub_u64(rest * 33554432 + high, used);
-    left < 2 * high
+    left < 2 * high + (low + square % 134217728) / 134217728
 }
 
 // The root of n * 4 + two, where q is the root of n with the remainder r: one binary digit more.
@@ -215,4 +218,27 @@ pub fn sqrt(x: f64) -> f64
         let s = scaled(exponent, fraction);
         root_of(s.m, s.g)
     }
+}
+
+// 2 ^ -100: the square of a number from there on loses nothing to underflow.
+const LEAST: f64 = 7.888609052210118e-31;
+
+// Whether the square root of x is at most c. Squares that are clearly apart tell it without the root.
+pub fn at_most(x: f64, c: f64) -> bool
+    ensures { λ r. ⌜ r ≡ (sqrtOf x ≤? c) ⌝ }
+{
+    if LEAST <= c {
+        let square = c * c;
+        if square + square < x {
+            return false;
+        }
+        if 0.0 <= x {
+            if square <= 1.0 {
+                if x + x <= square {
+                    return true;
+                }
+            }
+        }
+    }
+    sqrt(x) <= c
 }

@@ -1,12 +1,15 @@
 //! `compare PART SEED COUNT` runs a comparison; `compare record-PART SEED COUNT` writes a fixed list to standard output.
-//! Parts: solve, surface, patch, marching, crossing (lists of all but patch). Ends with 1 where anything differs, and with 2 on bad usage.
+//! Parts: fdlibm, solve, surface, patch, marching, crossing, trace, check (lists of all but fdlibm and patch), and trace-alone and
+//! check-alone, which run the oracle without the proved code. Ends with 1 where anything differs, and with 2 on bad usage.
 
-use oracle::compare::{crossing, marching, patch, solve, surface};
+use oracle::compare::{check, crossing, fdlibm, marching, patch, solve, surface, trace};
 use std::env;
 use std::process::ExitCode;
 
 fn usage() -> ExitCode {
-    eprintln!("usage: compare [record-]solve|[record-]surface|patch|[record-]marching|[record-]crossing SEED COUNT");
+    eprintln!(
+        "usage: compare fdlibm|patch|[record-]solve|[record-]surface|[record-]marching|[record-]crossing|[record-]trace|[record-]check|trace-alone|check-alone SEED COUNT"
+    );
     ExitCode::from(2)
 }
 
@@ -19,15 +22,22 @@ fn main() -> ExitCode {
         return usage();
     };
     let fine = match what.as_str() {
-        "crossing" => crossing::compare(seed, count) == 0,
-        "record-crossing" => crossing::record(seed, count).is_ok(),
-        "marching" => marching::compare(seed, count) == 0,
-        "record-marching" => marching::record(seed, count).is_ok(),
+        "fdlibm" => fdlibm::compare(seed, count) == 0,
         "solve" => solve::compare(seed, count) == 0,
+        "record-solve" => solve::record(seed, count).is_ok(),
         "surface" => surface::compare(seed, count) == 0,
         "patch" => patch::compare(seed, count) == 0,
         "record-surface" => patch::record(seed, count).is_ok(),
-        "record-solve" => solve::record(seed, count).is_ok(),
+        "marching" => marching::compare(seed, count) == 0,
+        "record-marching" => marching::record(seed, count).is_ok(),
+        "crossing" => crossing::compare(seed, count) == 0,
+        "record-crossing" => crossing::record(seed, count).is_ok(),
+        "trace" => trace::compare(seed, count) == 0,
+        "trace-alone" => trace::alone(seed, count) == 0,
+        "record-trace" => trace::record(seed, count).is_ok(),
+        "check" => check::compare(seed, count) == 0,
+        "check-alone" => check::alone(seed, count) == 0,
+        "record-check" => check::record(seed, count).is_ok(),
         _ => return usage(),
     };
     if fine {

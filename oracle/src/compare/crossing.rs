@@ -453,6 +453,33 @@ fn said(c: &Call) -> u64 {
     capi::crossing(c.confusion, c.angular, &c.buffer, c.count, &c.corners)
 }
 
+/// Calls to time, crossed or not: walks with a box near, each with both sides' answers. Traces of the walk have some hundred points.
+pub(crate) struct Timed(Call);
+
+impl Timed {
+    pub(crate) fn new(r: &mut Random) -> Timed {
+        let n = 50 + r.below(200);
+        let p = walk(r, n, 0.2);
+        let corners = near(r, &p, 0.2, 0.2);
+        Timed(Call {
+            kind: 0,
+            confusion: 1e-7,
+            angular: 1e-12,
+            buffer: laid(r, &p),
+            count: n as u64,
+            corners,
+        })
+    }
+
+    pub(crate) fn ours(&self) -> u64 {
+        said(&self.0)
+    }
+
+    pub(crate) fn oracle(&self) -> u64 {
+        answer(&self.0)
+    }
+}
+
 /// How a kind's calls were answered.
 #[derive(Default, Clone, Copy)]
 struct Answers {

@@ -122,7 +122,7 @@ fn patch(r: &mut Random, kind: usize) -> Patch {
 }
 
 /// Whether a direction is an angle.
-fn is_angle(kind: usize, k: usize) -> bool {
+pub(super) fn is_angle(kind: usize, k: usize) -> bool {
     kind > 0 && (k == 0 || kind == 4)
 }
 
@@ -141,7 +141,7 @@ fn parameters(r: &mut Random, kind: usize) -> [f64; 2] {
 }
 
 /// Moves the patch so that its point at `y` is `p`.
-fn through(b: &mut Patch, y: [f64; 2], p: Point3D) {
+pub(super) fn through(b: &mut Patch, y: [f64; 2], p: Point3D) {
     let q = b.eval_point(y[0], y[1]);
     b.frame.origin = b.frame.origin + (p - q);
 }
@@ -241,7 +241,11 @@ fn degenerate(r: &mut Random, s: &mut Patch, x: &mut [f64; 2]) {
 }
 
 /// The two patches, the parameters of a point that they share, and how far the guess is off.
-fn pair(r: &mut Random, kind: usize, kinds: [usize; 2]) -> (Patch, Patch, [f64; 4], f64) {
+pub(super) fn pair(
+    r: &mut Random,
+    kind: usize,
+    kinds: [usize; 2],
+) -> (Patch, Patch, [f64; 4], f64) {
     let (mut a, mut b) = (patch(r, kinds[0]), patch(r, kinds[1]));
     let (mut x, mut y) = (parameters(r, kinds[0]), parameters(r, kinds[1]));
     if kind == 5 && kinds[0] == kinds[1] {
@@ -426,6 +430,79 @@ fn call(r: &mut Random, index: u64, step: usize) -> Call {
         spoil(r, &mut c);
     }
     c
+}
+
+/// A call as the walk makes it, for timing: a guess off by a little, wide windows, angles marked, the default tolerance.
+pub(crate) fn timed(r: &mut Random, kinds: [usize; 2], step: Step) -> Timed {
+    let (mut a, mut b, at, _) = pair(r, 2, kinds);
+    for (k, x) in at.into_iter().enumerate() {
+        let s = if k < 2 { &mut a } else { &mut b };
+        s.windows[k % 2] = (x - 20.0, x + 20.0);
+    }
+    let tol = Tolerance {
+        confusion: 1e-7,
+        angular: 1e-12,
+        parametric: 0.0,
+    };
+    let x = at.map(|v| v + 0.01 * r.signed_unit());
+    let mut c = Call {
+        kind: 11,
+        step,
+        a,
+        b,
+        tol,
+        x,
+        rest: [0.0; 6],
+    };
+    c.rest = asked(r, &c, at);
+    let input = input(&c);
+    Timed { c, input }
+}
+
+/// A call with its numbers laid out for the proved code.
+pub(crate) struct Timed {
+    c: Call,
+    input: [f64; INPUT],
+}
+
+impl Timed {
+    /// The oracle's answer, put where ours puts its own.
+    pub(crate) fn oracle(&self, output: &mut [f64; 4]) -> u64 {
+        let c = &self.c;
+        let [p, q, s, t, u, v] = c.rest;
+        let mut put = |m: Option<[f64; 4]>| {
+            m.map_or(0, |y| {
+                *output = y;
+                1
+            })
+        };
+        match c.step {
+            Step::Tangent => put(tangent(&c.a, &c.b, c.x, c.tol).map(|d| [d.x, d.y, d.z, 0.0])),
+            Step::Predict => put(Some(predict(&c.a, &c.b, c.x, Vector3D::new(p, q, s)))),
+            Step::Leaving => leaving(&c.a, &c.b, c.x, [p, q, s, t]).map_or(4, |(k, bound)| {
+                output[0] = bound;
+                k as u64
+            }),
+            Step::Meet => put(meet(&c.a, &c.b, c.x, None, c.tol, Windows::Asked)),
+            Step::MeetInPlane => {
+                let plane = (Point3D::new(p, q, s), Vector3D::new(t, u, v));
+                put(meet(&c.a, &c.b, c.x, Some(plane), c.tol, Windows::Asked))
+            }
+            Step::Land(pin) => put(land(
+                &c.a,
+                &c.b,
+                c.x,
+                pin as usize,
+                p,
+                c.tol,
+                Windows::Asked,
+            )),
+        }
+    }
+
+    pub(crate) fn ours(&self, output: &mut [f64; 4]) -> u64 {
+        probe::step(self.c.step, &self.input, output)
+    }
 }
 
 /// The oracle's answer: its word and the numbers written.

@@ -1,10 +1,14 @@
 //! The comparisons: each runs both sides on generated inputs and compares every bit, all NaNs being one.
 
+pub mod check;
 pub mod crossing;
+pub mod fdlibm;
+pub(crate) mod jobs;
 pub mod marching;
 pub mod patch;
 pub mod solve;
 pub mod surface;
+pub mod trace;
 
 /// Numbers that branch, round away or overflow somewhere.
 const SPECIAL: [f64; 22] = [

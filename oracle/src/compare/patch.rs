@@ -2,6 +2,8 @@
 
 use super::surface::{derivatives, frame, parameter, point, wrote};
 use super::{SPECIAL, UNTOUCHED, word};
+use crate::capi;
+use crate::job::Side;
 use crate::patch::refusal;
 use crate::probe;
 use crate::random::Random;
@@ -126,6 +128,34 @@ fn agrees(c: &Case, expected: &(u64, Vec<f64>)) -> bool {
     said == expected.0 && wrote(&output, &expected.1)
 }
 
+/// Whether the C interface's point gives this answer; a size that the kind has not, with any bit set, is answered 19.
+fn agrees_in_c(r: &mut Random, c: &Case) -> bool {
+    let (kind, marks) = (c.kind as u8, c.marks as u8);
+    let mut numbers: [f64; 18] = std::array::from_fn(|k| c.numbers[k]);
+    let unused = &mut numbers[12 + Side::sizes(kind)..14];
+    if !r.one_in(4) {
+        unused.fill(0.0);
+    }
+    let set = unused.iter().any(|x| x.to_bits() != 0);
+    let expected = if set { (19, Vec::new()) } else { answer(c) };
+    let mut bytes = Vec::new();
+    let side = Side {
+        kind,
+        marks,
+        numbers,
+    };
+    side.write(&mut bytes);
+    let mut output = [UNTOUCHED; 4];
+    let said = capi::point(&bytes, c.u, c.v, &mut output);
+    let short = capi::point(
+        &bytes[..r.below(bytes.len())],
+        c.u,
+        c.v,
+        &mut [UNTOUCHED; 3],
+    );
+    said == expected.0 && wrote(&output, &expected.1) && short == 19
+}
+
 /// A kind above 4 and marks above 3 are answered 19, slices too short 8, and nothing is written.
 fn unusable() -> u64 {
     let n = [1.0; 18];
@@ -143,12 +173,14 @@ fn unusable() -> u64 {
 /// Compares `count` patches. Returns how many differ.
 pub fn compare(seed: u64, count: u64) -> u64 {
     let mut r = Random::new(seed);
-    let mut differ = 0;
+    let mut other = Random::new(seed.wrapping_add(1));
+    let (mut differ, mut in_c) = (0, 0);
     let mut answers = [[0u64; 7]; 5];
     for _ in 0..count {
         let c = case(&mut r);
         let expected = answer(&c);
         answers[c.kind][expected.0 as usize] += 1;
+        in_c += u64::from(!agrees_in_c(&mut other, &c));
         if !agrees(&c, &expected) {
             differ += 1;
             if differ <= 3 {
@@ -161,13 +193,14 @@ pub fn compare(seed: u64, count: u64) -> u64 {
     }
     let short = unusable();
     println!("patches: {count} compared, {differ} differ; unusable: {short} differ");
+    println!("points of the C interface: {count} compared, {in_c} differ");
     for (kind, a) in answers.iter().enumerate() {
         println!(
             "  kind {kind}: {} points, refused by 1: {}, 2: {}, 3: {}, 4: {}, 6: {}",
             a[0], a[1], a[2], a[3], a[4], a[6]
         );
     }
-    differ + short
+    differ + in_c + short
 }
 
 /// Writes the fixed list: `count` points, pairs of derivatives and public points each, with the oracle's answers, as big-endian words.

@@ -3,7 +3,7 @@
 use super::{SPECIAL, UNTOUCHED, word};
 use crate::probe;
 use crate::random::Random;
-use crate::surface::Surface;
+use crate::surfaces::{ParametricSurface, Patch};
 use std::f64::consts::{FRAC_PI_2, PI};
 
 const KINDS: [&str; 5] = ["plane", "cylinder", "cone", "sphere", "torus"];
@@ -136,14 +136,13 @@ fn case(r: &mut Random) -> Case {
 
 /// The oracle's point.
 pub(super) fn point(kind: usize, numbers: &[f64], u: f64, v: f64) -> [f64; 3] {
-    let p = Surface::from_numbers(kind, numbers).eval_point(u, v);
+    let p = Patch::from_numbers(kind, 0, numbers).eval_point(u, v);
     [p.x, p.y, p.z]
 }
 
 /// The oracle's first derivatives, by u and then by v.
 pub(super) fn derivatives(kind: usize, numbers: &[f64], u: f64, v: f64) -> [f64; 6] {
-    let s = Surface::from_numbers(kind, numbers);
-    let (a, b) = (s.derivative(u, v, 1, 0), s.derivative(u, v, 0, 1));
+    let (_, [a, b]) = Patch::from_numbers(kind, 0, numbers).eval_d1(u, v);
     [a.x, a.y, a.z, b.x, b.y, b.z]
 }
 

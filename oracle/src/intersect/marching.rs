@@ -1,12 +1,14 @@
-// From geomcore at a20e012915, `src/intersect/marching.rs`, licensed MIT OR Apache-2.0: what one crossing and the steps of the walk need.
-// `tangent`, `predict`, `meet`, `param_bounds`, `within_bounds`, `leaving` and `land` are carried over unchanged, but for the window test
-// that the scope adds to `meet` and `land`: each changed line says so. Square roots are the hardware's, which round as ours do.
+// From geomcore at a20e012915, `src/intersect/marching.rs`, licensed MIT OR Apache-2.0: what one crossing and one trace need.
+// `trace`, `tangent`, `predict`, `meet`, `param_bounds`, `within_bounds`, `leaving` and `land` are carried over unchanged, but for what the
+// scope changes: the window test in `meet` and `land`; in `trace` the chord test, the job's cap, the parameters kept beside each point,
+// what is answered, and the arc tangent. Each changed line says so. Square roots are the hardware's, which round as ours do.
 // `Traced::of` holds the lines of `Traced::follow` that make a trace's boxes, for a trace that is handed in; `crosses`,
 // `segment_meets_box` and the constants are carried over unchanged.
 
 use super::pieces;
 use crate::math::boxtree::{Aabb, boxes_apart};
 use crate::math::solve::{solve_2x2, solve_3x3, solve_4x4};
+use crate::ours::atan2;
 use crate::surfaces::ParametricSurface;
 use crate::{Point3D, Tolerance, Vector3D};
 
@@ -78,6 +80,9 @@ pub(crate) fn segment_meets_box(p: Point3D, q: Point3D, b: &Aabb) -> bool {
 /// `tol.confusion`.
 const CHORD_DEVIATION: f64 = 1000.0;
 
+/// The Rust's `crate::tol::CONFUSION`, which is not at hand: "farther than max(confusion, 1e-7) from the last".
+const CONFUSION: f64 = 1e-7;
+
 /// Added by the scope: "Both tests also ask that every parameter lie inside its window where that has no turn mark." `Ignored` is the Rust
 /// as it was, so that what the test changes can be counted.
 #[derive(Clone, Copy)]
@@ -99,6 +104,171 @@ impl Windows {
             Windows::Ignored => true,
         }
     }
+}
+
+/// Added by the scope: "A point, landed or not, is kept only if its computed chord from the last is at most 0.2; else the stride is
+/// shortened as after a failed landing." `Ignored` is the Rust as it was, so that what the test changes can be counted.
+#[derive(Clone, Copy)]
+pub(crate) enum Chords {
+    Asked,
+    Ignored,
+}
+
+impl Chords {
+    fn hold(self, chord: f64) -> bool {
+        match self {
+            Chords::Asked => chord <= 0.2,
+            Chords::Ignored => true,
+        }
+    }
+}
+
+/// What the scope adds to the answer: parameters beside each point, the start's index and the closing code.
+pub(crate) struct Line {
+    pub(crate) points: Vec<([f64; 4], Point3D)>,
+    pub(crate) start: usize,
+    pub(crate) closing: u64,
+}
+
+/// Why the Rust answers `None`.
+pub(crate) enum Untraced {
+    NoDirection,
+    TooShort,
+}
+
+/// Trace the intersection curve through `seed` both ways. Returns its
+/// points in order (a closed loop ends on its first point), or `None`
+/// when fewer than four were traced.
+pub(crate) fn trace<A, B>(
+    a: &A,
+    b: &B,
+    seed: [f64; 4],
+    tol: Tolerance,
+    cap: usize,     // changed: added
+    chords: Chords, // changed: added
+) -> Result<Line, Untraced>
+// changed: Option<Vec<Point3D>>
+where
+    A: ParametricSurface,
+    B: ParametricSurface,
+{
+    // Chord deviation allowed per step, and the longest step.
+    let chord_deviation = CHORD_DEVIATION * tol.confusion;
+    const H_MAX: f64 = 0.1;
+    // Turn always allowed in one step. Beyond it, a step may turn by at
+    // most `CURVATURE_GROWTH` times the previous step's curvature times
+    // its chord: on a smooth curve turn/chord tends to the curvature as
+    // the step is halved, so the step is eventually accepted, while at a
+    // crossing of two branches (where the surfaces touch) the turn onto
+    // the other branch stays finite, and the trace ends there.
+    const FREE_TURN: f64 = 0.05;
+    const CURVATURE_GROWTH: f64 = 4.0;
+    let start = a.eval_point(seed[0], seed[1]);
+    let t0 = tangent(a, b, seed, tol).ok_or(Untraced::NoDirection)?; // changed: ?
+    let mut halves: [Vec<([f64; 4], Point3D)>; 2] = [Vec::new(), Vec::new()]; // changed: parameters
+    let mut closed = false;
+    let mut closing = 0; // changed: added
+    for ((half, dir), code) in halves.iter_mut().zip([1.0, -1.0]).zip([1, 2]) {
+        // changed: code
+        if closed {
+            break;
+        }
+        let (mut x, mut p, mut t) = (seed, start, t0 * dir);
+        let mut h = (8.0 * chord_deviation).sqrt().min(H_MAX);
+        // Curvature of the last accepted step (none before the first).
+        let mut last_curvature = 0.0;
+        for _ in 0..cap {
+            // changed: 2000
+            // Predict along the tangent, correct onto both surfaces in the
+            // plane normal to it; halve the step until the result stays on
+            // this branch with a small chord deviation.
+            let mut step = None;
+            let mut edge = None;
+            while h >= tol.confusion {
+                let target = p + t * h;
+                let guess = predict(a, b, x, t * h);
+                if let Some((pin, bound)) = leaving(a, b, x, guess) {
+                    // The step leaves a parameter domain: end on its edge.
+                    if let Some(y) = land(a, b, guess, pin, bound, tol, Windows::Asked) {
+                        // changed: the window test
+                        let q = a.eval_point(y[0], y[1]);
+                        if (q - p).dot(t) >= 0.0
+                            && q.distance(p) <= 2.0 * h
+                            && chords.hold(q.distance(p))
+                        // changed: the chord test
+                        {
+                            edge = Some((y, q)); // changed: parameters
+                            break;
+                        }
+                    }
+                } else if let Some(y) = meet(a, b, guess, Some((target, t)), tol, Windows::Asked) // changed: the window test
+                    && let Some(ty) = tangent(a, b, y, tol).map(|ty| ty * dir)
+                {
+                    let q = a.eval_point(y[0], y[1]);
+                    let chord = q.distance(p);
+                    let turn = atan2(t.cross(ty).magnitude(), t.dot(ty)); // changed: ours
+                    let smooth = turn <= FREE_TURN.max(CURVATURE_GROWTH * last_curvature * chord);
+                    if ty.dot(t) > 0.0
+                        && chord <= 2.0 * h
+                        && chord * turn <= 32.0 * chord_deviation
+                        && smooth
+                        && chords.hold(chord)
+                    // changed: the chord test
+                    {
+                        step = Some((y, q, ty, turn / chord.max(f64::MIN_POSITIVE)));
+                        break;
+                    }
+                }
+                h *= 0.5;
+            }
+            if let Some((y, q)) = edge {
+                // changed: parameters
+                if q.distance(p) > tol.confusion.max(CONFUSION) {
+                    // changed: crate::tol::CONFUSION
+                    half.push((y, q)); // changed: parameters
+                }
+                break;
+            }
+            let Some((y, q, ty, curvature)) = step else {
+                break;
+            };
+            // Back at the seed: close the loop on it.
+            let along = (start - p).dot(q - p) / (q - p).dot(q - p).max(f64::MIN_POSITIVE);
+            if half.len() >= 3
+                && (0.0..=1.0).contains(&along)
+                && (p + (q - p) * along).distance(start)
+                    <= 4.0 * chord_deviation + 10.0 * tol.confusion
+            {
+                if p.distance(start) < 0.1 * h {
+                    half.pop();
+                }
+                half.push((seed, start)); // changed: parameters
+                closed = true;
+                closing = code; // changed: added
+                break;
+            }
+            half.push((y, q)); // changed: parameters
+            (x, p, t) = (y, q, ty);
+            last_curvature = curvature;
+            h = (2.0 * h)
+                .min(H_MAX)
+                .min((8.0 * chord_deviation / curvature.max(f64::MIN_POSITIVE)).sqrt());
+        }
+    }
+    let [forward, backward] = halves;
+    let index = backward.len(); // changed: added
+    let mut points: Vec<([f64; 4], Point3D)> = backward.into_iter().rev().collect(); // changed: parameters
+    points.push((seed, start)); // changed: parameters
+    points.extend(forward);
+    // changed: (points.len() >= 4).then_some(points)
+    if points.len() < 4 {
+        return Err(Untraced::TooShort);
+    }
+    Ok(Line {
+        points,
+        start: index,
+        closing,
+    })
 }
 
 /// Unit tangent `N1 x N2` of the intersection at parameters `x`, or `None`

@@ -1,121 +1,227 @@
--- `solve::solve_4x4` meets its contract: each turn is one column of the definition, which goes on or gives up. Assumes nothing.
+-- `solve::solve_4x4` meets its contract: each column is one of the definition, which goes on or gives up. Assumes nothing.
 use mathlib.Core.Path.{_≡_, ap, _∙_}
-use Prim.Native.Nat.{_-_, _≤_}
+use Prim.{tt}
+use lib.Dec.{lit<, lit≤}
 use borrow.Author.Needs.{needs}
-use native.Mathlib.Omega.{arith}
-use Rattle.loops.proofs.Loop.{searched-again, searched-leave, searched-done}
-use Rattle.solve.specs.Solve.{system, solving, solveOf, solve4Of, answer4, solution}
-use Rattle.solve.proofs.Laws.{column-on, column-out}
+use Rattle.loops.proofs.Loop.{searched-done}
+use Rattle.solve.specs.Solve.{solve4Of, answer4, solution}
+use Rattle.solve.proofs.Laws.{starts, goes-on, leaves}
 use Rattle.solve.proofs.solve_4x4.Statement.{statement}
 use Rattle.solve.proofs.solve_4x4.Tie as tie
 
-abbrev Inv-loop : tie.InvT-loop
-Inv-loop tol scale m₀ b₀ col₀ m b col = (solving 4 tol scale col (system m b) ≡ solveOf 4 m₀ b₀ tol) × (col ≤ 4)
-
-abbrev μ-loop : tie.MeasureT-loop
-μ-loop tol scale m₀ b₀ col₀ m b col = 4 - col
-
-scale4-requires : tie.Need-scale4-requires Inv-loop μ-loop
+scale4-requires : tie.Need-scale4-requires
 scale4-requires c κs = search needs
 
-loop-holds : tie.Need-loop-holds Inv-loop μ-loop
-unfolding solveOf
-loop-holds c = (rw (c .scale4 .ensures), omega arith)
-
-pivot4-requires : tie.Need-pivot4-requires Inv-loop μ-loop
+pivot4-requires : tie.Need-pivot4-requires
 pivot4-requires c κs = search needs
 
-swap-rows4-requires : tie.Need-swap-rows4-requires Inv-loop μ-loop
+swap-rows4-requires : tie.Need-swap-rows4-requires
 swap-rows4-requires c κs = search needs
 
-swap4-requires : tie.Need-swap4-requires Inv-loop μ-loop
+swap4-requires : tie.Need-swap4-requires
 swap4-requires c κs = search needs
 
-mul-gives-up : tie.Need-mul-gives-up Inv-loop μ-loop
-mul-gives-up c = search needs
-
-mul-gives-up-2 : tie.Need-mul-gives-up-2 Inv-loop μ-loop
-mul-gives-up-2 c = search needs
-
-index-1-gives-up : tie.Need-index-1-gives-up Inv-loop μ-loop
+index-1-gives-up : tie.Need-index-1-gives-up
 index-1-gives-up c = search needs
 
-index-2-gives-up : tie.Need-index-2-gives-up Inv-loop μ-loop
+index-2-gives-up : tie.Need-index-2-gives-up
 index-2-gives-up c = search needs
 
-gives-up-requires : tie.Need-gives-up-requires Inv-loop μ-loop
+gives-up-requires : tie.Need-gives-up-requires
 gives-up-requires c κs = search needs
 
-returns : tie.Need-returns Inv-loop μ-loop
+returns : tie.Need-returns
 unfolding solve4Of
 returns c =
-    let s = c .before .before .before in
-    let p = s .before .before in
-    let l = p .before .before .loop in
-    let step = column-out 4 _ _ _ (l .m) (l .b) (p .pivot4 .ensures .0) (s .before .swap-rows4 .ensures) (s .swap4 .ensures) (c .before .gives-up .ensures) (c .if1 .taken) in
-    ap answer4 (searched-leave _ _ _ 4 (p .before .loop-test .taken) step (l .inv .0))
+    let g0 = c .before in
+    let s0 = g0 .before .before in
+    let p0 = s0 .before .before in
+    let st = p0 .before in
+    let a = st .before .args in
+    let i0 = starts 4 (a .a) (a .b) (a .tol) (st .scale4 .ensures) in
+    ap answer4 (leaves 4 _ _ 0 _ _ (lit< tt) i0 (p0 .pivot4 .ensures .0) (s0 .before .swap-rows4 .ensures) (s0 .swap4 .ensures) (g0 .gives-up .ensures) (c .if1 .taken))
 
-eliminate4-requires : tie.Need-eliminate4-requires Inv-loop μ-loop
+eliminate4-requires : tie.Need-eliminate4-requires
 eliminate4-requires c κs = search needs
 
-add-col : tie.Need-add-col Inv-loop μ-loop
-add-col c = search needs
+pivot4-requires-2 : tie.Need-pivot4-requires-2
+pivot4-requires-2 c κs = search needs
 
-loop-less : tie.Need-loop-less Inv-loop μ-loop
-loop-less c = search needs
+swap-rows4-requires-2 : tie.Need-swap-rows4-requires-2
+swap-rows4-requires-2 c κs = search needs
 
-loop-again : tie.Need-loop-again Inv-loop μ-loop
-loop-again c =
-    let e = c .before .before in
-    let s = e .before .before .before in
-    let p = s .before .before in
-    let l = p .before .before .loop in
-    let step = column-on 4 _ _ _ (l .m) (l .b) (p .pivot4 .ensures .0) (s .before .swap-rows4 .ensures) (s .swap4 .ensures) (e .before .gives-up .ensures) (e .if1 .left) (c .eliminate4 .ensures) in
-    (searched-again _ _ _ 4 (p .before .loop-test .taken) step (l .inv .0), omega arith)
+swap4-requires-2 : tie.Need-swap4-requires-2
+swap4-requires-2 c κs = search needs
 
-back4-requires : tie.Need-back4-requires Inv-loop μ-loop
+index-1-gives-up-2 : tie.Need-index-1-gives-up-2
+index-1-gives-up-2 c = search needs
+
+index-2-gives-up-2 : tie.Need-index-2-gives-up-2
+index-2-gives-up-2 c = search needs
+
+gives-up-requires-2 : tie.Need-gives-up-requires-2
+gives-up-requires-2 c κs = search needs
+
+returns-2 : tie.Need-returns-2
+unfolding solve4Of
+returns-2 c =
+    let g1 = c .before in
+    let s1 = g1 .before .before in
+    let p1 = s1 .before .before in
+    let e0 = p1 .before in
+    let o0 = e0 .before .before in
+    let g0 = o0 .before in
+    let s0 = g0 .before .before in
+    let p0 = s0 .before .before in
+    let st = p0 .before in
+    let a = st .before .args in
+    let i0 = starts 4 (a .a) (a .b) (a .tol) (st .scale4 .ensures) in
+    let i1 = goes-on 4 _ _ 0 _ _ (lit< tt) i0 (p0 .pivot4 .ensures .0) (s0 .before .swap-rows4 .ensures) (s0 .swap4 .ensures) (g0 .gives-up .ensures) (o0 .if1 .left) (e0 .eliminate4 .ensures) in
+    ap answer4 (leaves 4 _ _ 1 _ _ (lit< tt) i1 (p1 .pivot42 .ensures .0) (s1 .before .swap-rows42 .ensures) (s1 .swap42 .ensures) (g1 .gives-up2 .ensures) (c .if2 .taken))
+
+eliminate4-requires-2 : tie.Need-eliminate4-requires-2
+eliminate4-requires-2 c κs = search needs
+
+pivot4-requires-3 : tie.Need-pivot4-requires-3
+pivot4-requires-3 c κs = search needs
+
+swap-rows4-requires-3 : tie.Need-swap-rows4-requires-3
+swap-rows4-requires-3 c κs = search needs
+
+swap4-requires-3 : tie.Need-swap4-requires-3
+swap4-requires-3 c κs = search needs
+
+index-1-gives-up-3 : tie.Need-index-1-gives-up-3
+index-1-gives-up-3 c = search needs
+
+index-2-gives-up-3 : tie.Need-index-2-gives-up-3
+index-2-gives-up-3 c = search needs
+
+gives-up-requires-3 : tie.Need-gives-up-requires-3
+gives-up-requires-3 c κs = search needs
+
+returns-3 : tie.Need-returns-3
+unfolding solve4Of
+returns-3 c =
+    let g2 = c .before in
+    let s2 = g2 .before .before in
+    let p2 = s2 .before .before in
+    let e1 = p2 .before in
+    let o1 = e1 .before .before in
+    let g1 = o1 .before in
+    let s1 = g1 .before .before in
+    let p1 = s1 .before .before in
+    let e0 = p1 .before in
+    let o0 = e0 .before .before in
+    let g0 = o0 .before in
+    let s0 = g0 .before .before in
+    let p0 = s0 .before .before in
+    let st = p0 .before in
+    let a = st .before .args in
+    let i0 = starts 4 (a .a) (a .b) (a .tol) (st .scale4 .ensures) in
+    let i1 = goes-on 4 _ _ 0 _ _ (lit< tt) i0 (p0 .pivot4 .ensures .0) (s0 .before .swap-rows4 .ensures) (s0 .swap4 .ensures) (g0 .gives-up .ensures) (o0 .if1 .left) (e0 .eliminate4 .ensures) in
+    let i2 = goes-on 4 _ _ 1 _ _ (lit< tt) i1 (p1 .pivot42 .ensures .0) (s1 .before .swap-rows42 .ensures) (s1 .swap42 .ensures) (g1 .gives-up2 .ensures) (o1 .if2 .left) (e1 .eliminate42 .ensures) in
+    ap answer4 (leaves 4 _ _ 2 _ _ (lit< tt) i2 (p2 .pivot43 .ensures .0) (s2 .before .swap-rows43 .ensures) (s2 .swap43 .ensures) (g2 .gives-up3 .ensures) (c .if3 .taken))
+
+eliminate4-requires-3 : tie.Need-eliminate4-requires-3
+eliminate4-requires-3 c κs = search needs
+
+pivot4-requires-4 : tie.Need-pivot4-requires-4
+pivot4-requires-4 c κs = search needs
+
+swap-rows4-requires-4 : tie.Need-swap-rows4-requires-4
+swap-rows4-requires-4 c κs = search needs
+
+swap4-requires-4 : tie.Need-swap4-requires-4
+swap4-requires-4 c κs = search needs
+
+index-1-gives-up-4 : tie.Need-index-1-gives-up-4
+index-1-gives-up-4 c = search needs
+
+index-2-gives-up-4 : tie.Need-index-2-gives-up-4
+index-2-gives-up-4 c = search needs
+
+gives-up-requires-4 : tie.Need-gives-up-requires-4
+gives-up-requires-4 c κs = search needs
+
+returns-4 : tie.Need-returns-4
+unfolding solve4Of
+returns-4 c =
+    let g3 = c .before in
+    let s3 = g3 .before .before in
+    let p3 = s3 .before .before in
+    let e2 = p3 .before in
+    let o2 = e2 .before .before in
+    let g2 = o2 .before in
+    let s2 = g2 .before .before in
+    let p2 = s2 .before .before in
+    let e1 = p2 .before in
+    let o1 = e1 .before .before in
+    let g1 = o1 .before in
+    let s1 = g1 .before .before in
+    let p1 = s1 .before .before in
+    let e0 = p1 .before in
+    let o0 = e0 .before .before in
+    let g0 = o0 .before in
+    let s0 = g0 .before .before in
+    let p0 = s0 .before .before in
+    let st = p0 .before in
+    let a = st .before .args in
+    let i0 = starts 4 (a .a) (a .b) (a .tol) (st .scale4 .ensures) in
+    let i1 = goes-on 4 _ _ 0 _ _ (lit< tt) i0 (p0 .pivot4 .ensures .0) (s0 .before .swap-rows4 .ensures) (s0 .swap4 .ensures) (g0 .gives-up .ensures) (o0 .if1 .left) (e0 .eliminate4 .ensures) in
+    let i2 = goes-on 4 _ _ 1 _ _ (lit< tt) i1 (p1 .pivot42 .ensures .0) (s1 .before .swap-rows42 .ensures) (s1 .swap42 .ensures) (g1 .gives-up2 .ensures) (o1 .if2 .left) (e1 .eliminate42 .ensures) in
+    let i3 = goes-on 4 _ _ 2 _ _ (lit< tt) i2 (p2 .pivot43 .ensures .0) (s2 .before .swap-rows43 .ensures) (s2 .swap43 .ensures) (g2 .gives-up3 .ensures) (o2 .if3 .left) (e2 .eliminate43 .ensures) in
+    ap answer4 (leaves 4 _ _ 3 _ _ (lit< tt) i3 (p3 .pivot44 .ensures .0) (s3 .before .swap-rows44 .ensures) (s3 .swap44 .ensures) (g3 .gives-up4 .ensures) (c .if4 .taken))
+
+eliminate4-requires-4 : tie.Need-eliminate4-requires-4
+eliminate4-requires-4 c κs = search needs
+
+back4-requires : tie.Need-back4-requires
 back4-requires c κs = search needs
 
-array-read-t28 : tie.Need-array-read-t28 Inv-loop μ-loop
-array-read-t28 c = search needs
+array-read-t29 : tie.Need-array-read-t29
+array-read-t29 c = search needs
 
-array-read-t31 : tie.Need-array-read-t31 Inv-loop μ-loop
-array-read-t31 c = search needs
+array-read-t54 : tie.Need-array-read-t54
+array-read-t54 c = search needs
 
-array-read-t34 : tie.Need-array-read-t34 Inv-loop μ-loop
-array-read-t34 c = search needs
+array-read-t57 : tie.Need-array-read-t57
+array-read-t57 c = search needs
 
-array-read-t37 : tie.Need-array-read-t37 Inv-loop μ-loop
-array-read-t37 c = search needs
+array-read-t60 : tie.Need-array-read-t60
+array-read-t60 c = search needs
 
-returns-2 : tie.Need-returns-2 Inv-loop μ-loop
+returns-5 : tie.Need-returns-5
 unfolding solve4Of
-returns-2 c = ap answer4 (ap solution (c .back4 .ensures) ∙ searched-done _ _ _ 4 (c .before .loop-test .left) (c .before .before .loop .inv .0))
+returns-5 c =
+    let e3 = c .before in
+    let o3 = e3 .before .before in
+    let g3 = o3 .before in
+    let s3 = g3 .before .before in
+    let p3 = s3 .before .before in
+    let e2 = p3 .before in
+    let o2 = e2 .before .before in
+    let g2 = o2 .before in
+    let s2 = g2 .before .before in
+    let p2 = s2 .before .before in
+    let e1 = p2 .before in
+    let o1 = e1 .before .before in
+    let g1 = o1 .before in
+    let s1 = g1 .before .before in
+    let p1 = s1 .before .before in
+    let e0 = p1 .before in
+    let o0 = e0 .before .before in
+    let g0 = o0 .before in
+    let s0 = g0 .before .before in
+    let p0 = s0 .before .before in
+    let st = p0 .before in
+    let a = st .before .args in
+    let i0 = starts 4 (a .a) (a .b) (a .tol) (st .scale4 .ensures) in
+    let i1 = goes-on 4 _ _ 0 _ _ (lit< tt) i0 (p0 .pivot4 .ensures .0) (s0 .before .swap-rows4 .ensures) (s0 .swap4 .ensures) (g0 .gives-up .ensures) (o0 .if1 .left) (e0 .eliminate4 .ensures) in
+    let i2 = goes-on 4 _ _ 1 _ _ (lit< tt) i1 (p1 .pivot42 .ensures .0) (s1 .before .swap-rows42 .ensures) (s1 .swap42 .ensures) (g1 .gives-up2 .ensures) (o1 .if2 .left) (e1 .eliminate42 .ensures) in
+    let i3 = goes-on 4 _ _ 2 _ _ (lit< tt) i2 (p2 .pivot43 .ensures .0) (s2 .before .swap-rows43 .ensures) (s2 .swap43 .ensures) (g2 .gives-up3 .ensures) (o2 .if3 .left) (e2 .eliminate43 .ensures) in
+    let i4 = goes-on 4 _ _ 3 _ _ (lit< tt) i3 (p3 .pivot44 .ensures .0) (s3 .before .swap-rows44 .ensures) (s3 .swap44 .ensures) (g3 .gives-up4 .ensures) (o3 .if4 .left) (e3 .eliminate44 .ensures) in
+    ap answer4 (ap solution (c .back4 .ensures) ∙ searched-done _ _ 4 4 (lit≤ tt) i4)
 
 pub solve-4x4-spec : {M : Type 1} → statement M
-solve-4x4-spec =
-    tie.close
-    (tie.spec
-    Inv-loop
-    μ-loop
-    scale4-requires
-    loop-holds
-    pivot4-requires
-    swap-rows4-requires
-    swap4-requires
-    mul-gives-up
-    mul-gives-up-2
-    index-1-gives-up
-    index-2-gives-up
-    gives-up-requires
-    returns
-    eliminate4-requires
-    add-col
-    loop-less
-    loop-again
-    back4-requires
-    array-read-t28
-    array-read-t31
-    array-read-t34
-    array-read-t37
-    returns-2)
+solve-4x4-spec = tie.close (tie.spec scale4-requires pivot4-requires swap-rows4-requires swap4-requires index-1-gives-up index-2-gives-up gives-up-requires returns eliminate4-requires pivot4-requires-2 swap-rows4-requires-2 swap4-requires-2 index-1-gives-up-2 index-2-gives-up-2 gives-up-requires-2 returns-2 eliminate4-requires-2 pivot4-requires-3 swap-rows4-requires-3 swap4-requires-3 index-1-gives-up-3 index-2-gives-up-3 gives-up-requires-3 returns-3 eliminate4-requires-3 pivot4-requires-4 swap-rows4-requires-4 swap4-requires-4 index-1-gives-up-4 index-2-gives-up-4 gives-up-requires-4 returns-4 eliminate4-requires-4 back4-requires array-read-t29 array-read-t54 array-read-t57 array-read-t60 returns-5)

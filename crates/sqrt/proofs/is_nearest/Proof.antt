@@ -25,7 +25,8 @@ unwrapped : (x y z : ℕ) → x + y < 2 ^ 64 → (x + y) % 2 ^ 64 ≡ z → x + 
 unwrapped x y z h e = sym (mod-eq-of-lt h) ∙ e
 
 -- a is 4 * h * h + d, so the number a * 2 ^ 52 is the candidate's square and (w + 1 - h) * 2 ^ 27 more, less the part of l * l that was cut off
-tested : (a h l d w : ℕ) → d + 4 * h * h ≡ a → w + (2 * h * l + l * l / 134217728 + 1) ≡ d * 33554432 + h → w < 2 * h → Nearest (a * 4503599627370496) (h * 134217728 + l)
+tested : (a h l d w : ℕ) → d + 4 * h * h ≡ a → w + (2 * h * l + l * l / 134217728 + 1) ≡ d * 33554432 + h
+    → w < 2 * h + (l + l * l % 134217728) / 134217728 → Nearest (a * 4503599627370496) (h * 134217728 + l)
 tested a h l d w e f g = record { low = omega arith; high = omega arith }
 
 mul-wrapping-sub-u64 : tie.Need-mul-wrapping-sub-u64
@@ -40,14 +41,14 @@ wrapping-sub-u64-requires c κs = tt
 returns : tie.Need-returns
 returns c e = absurd (false≢true e)
 
+mul-square : tie.Need-mul-square
+mul-square c = omega (arith, ll (c .before .before .pre .1))
+
 mul-used : tie.Need-mul-used
 mul-used c = search needs
 
 mul-used-2 : tie.Need-mul-used-2
 mul-used-2 c = omega (arith, hl (c .before .before .pre .1))
-
-mul-used-3 : tie.Need-mul-used-3
-mul-used-3 c = omega (arith, ll (c .before .before .pre .1))
 
 add-used : tie.Need-add-used
 add-used c = omega (arith, hl (c .before .before .pre .1), ll (c .before .before .pre .1))
@@ -67,6 +68,12 @@ wrapping-sub-u64-requires-2 c κs = tt
 mul-result : tie.Need-mul-result
 mul-result c = search needs
 
+add-result : tie.Need-add-result
+add-result c = search needs
+
+add-result-2 : tie.Need-add-result-2
+add-result-2 c = search needs
+
 returns-2 : tie.Need-returns-2
 returns-2 c e =
     let s = c .before .before .before in
@@ -78,7 +85,7 @@ returns-2 c e =
     let p = hh (s .pre .1) in
     let q = hl (s .pre .1) in
     let r = ll (s .pre .1) in
-    let g : w < 2 * h = ltb-true w (2 * h) e in
+    let g : w < 2 * h + (l + l * l % 134217728) / 134217728 = ltb-true w (2 * h + (l + l * l % 134217728) / 134217728) e in
     let i = unwrapped d (4 * h * h) a (omega (arith, c .before .if1 .left)) (c .before .before .wrapping-sub-u64 .ensures) in
     let k = unwrapped w (2 * h * l + l * l / 134217728 + 1) (d * 33554432 + h) (omega arith) (c .wrapping-sub-u642 .ensures) in
     tested a h l d w i k g
@@ -91,13 +98,15 @@ is-nearest-spec =
     mul-wrapping-sub-u64-2
     wrapping-sub-u64-requires
     returns
+    mul-square
     mul-used
     mul-used-2
-    mul-used-3
     add-used
     add-used-2
     mul-wrapping-sub-u64-3
     add-wrapping-sub-u64
     wrapping-sub-u64-requires-2
     mul-result
+    add-result
+    add-result-2
     returns-2)

@@ -4,8 +4,8 @@ use Rattle.meeting.specs.Newton.{nearOf}
 use Rattle.meeting.proofs.newton.near.Statement.{statement}
 use Rattle.meeting.proofs.newton.near.Tie as tie
 
-magnitude-requires : tie.Need-magnitude-requires
-magnitude-requires c κs = search needs
+magnitude-at-most-requires : tie.Need-magnitude-at-most-requires
+magnitude-at-most-requires c κs = search needs
 
 abs-requires : tie.Need-abs-requires
 abs-requires c κs = search needs
@@ -15,15 +15,15 @@ inside-requires c κs = search needs
 
 returns : tie.Need-returns
 unfolding nearOf
-returns c = rw (← c .before .before .before .before .magnitude .ensures, c .before .before .before .if1 .taken, ← c .before .before .abs .ensures, c .before .if2 .taken, ← c .inside .ensures)
+returns c = rw (← c .before .before .before .before .magnitude-at-most .ensures, c .before .before .before .if1 .taken, ← c .before .before .abs .ensures, c .before .if2 .taken, ← c .inside .ensures)
 
 returns-2 : tie.Need-returns-2
 unfolding nearOf
-returns-2 c = rw (← c .before .before .before .magnitude .ensures, c .before .before .if1 .taken, ← c .before .abs .ensures, c .if2 .left)
+returns-2 c = rw (← c .before .before .before .magnitude-at-most .ensures, c .before .before .if1 .taken, ← c .before .abs .ensures, c .if2 .left)
 
 returns-3 : tie.Need-returns-3
 unfolding nearOf
-returns-3 c = rw (← c .before .magnitude .ensures, c .if1 .left)
+returns-3 c = rw (← c .before .magnitude-at-most .ensures, c .if1 .left)
 
 pub near-spec : {M : Type 1} → statement M
-near-spec = tie.close (tie.spec magnitude-requires abs-requires inside-requires returns returns-2 returns-3)
+near-spec = tie.close (tie.spec magnitude-at-most-requires abs-requires inside-requires returns returns-2 returns-3)

@@ -1,0 +1,40 @@
+-- `capi::checked_word` meets its contract: each way out has its tests, and what it calls its own. Assumes nothing.
+use borrow.Author.Needs.{needs}
+use Rattle.capi.specs.Check.{checkedWord}
+use Rattle.capi.proofs.checked_word.Statement.{statement}
+use Rattle.capi.proofs.checked_word.Tie as tie
+
+enum-told : tie.Need-enum-told
+enum-told c = search needs
+
+enum-known-answer : tie.Need-enum-known-answer
+enum-known-answer c = search needs
+
+number-requires : tie.Need-number-requires
+number-requires c κs = search needs
+
+index-requires : tie.Need-index-requires
+index-requires c κs = search needs
+
+wrapping-add-u64-requires : tie.Need-wrapping-add-u64-requires
+wrapping-add-u64-requires c κs = search needs
+
+returns : tie.Need-returns
+unfolding checkedWord
+returns c = rw (c .enum-told .given .1)
+
+returns-2 : tie.Need-returns-2
+unfolding checkedWord
+returns-2 c = rw (c .before .before .before .before .answer .given .1, c .wrapping-add-u64 .ensures, c .before .index .ensures, c .before .before .number .ensures)
+
+pub checked-word-spec : {M : Type 1} → statement M
+checked-word-spec =
+    tie.close
+    (tie.spec
+    enum-told
+    enum-known-answer
+    number-requires
+    index-requires
+    wrapping-add-u64-requires
+    returns
+    returns-2)

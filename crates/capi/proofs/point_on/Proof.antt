@@ -1,0 +1,50 @@
+-- `capi::point_on` meets its contract: each way out has its tests, and what it calls its own. Assumes nothing.
+use borrow.Author.Needs.{needs}
+use borrow.Author.Tests.{le-ltb, lt-ltb}
+use Rattle.capi.specs.Point.{pointOn}
+use Rattle.capi.proofs.point_on.Statement.{statement}
+use Rattle.capi.proofs.point_on.Tie as tie
+
+returns : tie.Need-returns
+unfolding pointOn
+returns c = rw (lt-ltb _ _ (c .if1 .taken))
+
+point-requires : tie.Need-point-requires
+point-requires c κs = search needs
+
+enum-known-located : tie.Need-enum-known-located
+enum-known-located c = search needs
+
+number-requires : tie.Need-number-requires
+number-requires c κs = search needs
+
+enum-known-located-2 : tie.Need-enum-known-located-2
+enum-known-located-2 c = search needs
+
+put-requires : tie.Need-put-requires
+put-requires c κs = search needs
+
+returns-2 : tie.Need-returns-2
+unfolding pointOn
+returns-2 c = rw (le-ltb _ _ (c .before .before .before .before .before .if1 .left), ← c .before .before .before .before .point .ensures, c .before .before .located .given .1, ← c .number .ensures)
+
+same-length : tie.Need-same-length
+same-length c = search needs
+
+returns-3 : tie.Need-returns-3
+unfolding pointOn
+returns-3 c = rw (le-ltb _ _ (c .before .before .before .before .before .before .before .before .if1 .left), ← c .before .before .before .before .before .before .before .point .ensures, c .before .before .before .before .before .located2 .given .1, ← c .before .before .put .ensures)
+
+pub point-on-spec : {M : Type 1} → statement M
+point-on-spec =
+    tie.close
+    (tie.spec
+    returns
+    point-requires
+    enum-known-located
+    number-requires
+    enum-known-located-2
+    put-requires
+    returns-2
+    same-length
+    returns-3)

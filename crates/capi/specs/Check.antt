@@ -1,0 +1,25 @@
+-- The check's word. Definitions only.
+use mathlib.Core.List.{List}
+use Prim.Native.Nat.{ℕ}
+use lib.Ieee.{Float}
+use Rattle.refusal.specs.Refusal.{numberOf, indexOf}
+use Rattle.certificate.specs.declared.check.Checked.{Checked}
+use Rattle.certificate.specs.declared.check.Checked.the-variants as checked
+use Rattle.certificate.specs.Check.{checkOf}
+use Rattle.job.specs.declared.file.JobRead.{JobRead}
+use Rattle.job.specs.declared.file.JobRead.the-variants.{Whole, Refused}
+use Rattle.job.specs.File.{jobOf}
+use Rattle.capi.specs.Answer.{plus, shifted}
+
+-- "number + 2^32·index"
+unfoldable pub checkedWord : Checked → ℕ
+checkedWord checked.Passed = 0
+checkedWord (checked.Refused r) = plus (numberOf r) (shifted (indexOf r) 32)
+
+abbrev pub afterReading : JobRead → List Float → ℕ → ℕ → ℕ → ℕ
+afterReading (Refused r) l count start code = numberOf r
+afterReading (Whole j) l count start code = checkedWord (checkOf (j .a) (j .b) (j .tol) l count start code)
+
+-- "guess and cap of the job aren't read"
+unfoldable pub checkAnswer : List ℕ → List Float → ℕ → ℕ → ℕ → ℕ
+checkAnswer bytes l count start code = afterReading (jobOf bytes) l count start code

@@ -1,0 +1,37 @@
+-- The point's word and what it writes. Definitions only.
+use mathlib.Core.List.{List}
+use Prim.Native.Nat.{ℕ}
+use lib.Dec.{ltb}
+use lib.ListN.{length, set}
+use lib.Ieee.{Float}
+use Rattle.loops.specs.Loop.{pick}
+use Rattle.refusal.specs.Refusal.{numberOf}
+use Rattle.patch.specs.declared.patch.Patch.{Patch}
+use Rattle.patch.specs.declared.point.Located.{Located}
+use Rattle.patch.specs.declared.point.Located.the-variants as located
+use Rattle.patch.specs.Located.{locatedOf}
+use Rattle.job.specs.declared.file.SurfaceRead.{SurfaceRead}
+use Rattle.job.specs.declared.file.SurfaceRead.the-variants as surface
+use Rattle.job.specs.File.{surfaceFile}
+use Rattle.capi.specs.Answer.{Answer, answered}
+
+-- x, y and z at the front
+unfoldable pub put3 : List Float → Float → Float → Float → List Float
+put3 t x y z = set (set (set t 0 x) 1 y) 2 z
+
+-- "refusal number, 0 if none"; a refusal writes nothing
+abbrev pub locatedAnswer : Located → List Float → Answer
+locatedAnswer (located.Refused r) t = answered (numberOf r) t
+locatedAnswer (located.At p) t = answered 0 (put3 t (p .x) (p .y) (p .z))
+
+-- "out: at least 3 numbers", else 8
+unfoldable pub pointOn : Patch → Float → Float → List Float → Answer
+pointOn p u v t = pick (ltb (length t) 3) (answered 8 t) (locatedAnswer (locatedOf p u v) t)
+
+abbrev pub afterReading : SurfaceRead → Float → Float → List Float → Answer
+afterReading (surface.Refused r) u v t = answered (numberOf r) t
+afterReading (surface.Whole p) u v t = pointOn p u v t
+
+-- "surface: the 146 bytes of the job file", else 19
+unfoldable pub pointAnswer : List ℕ → Float → Float → List Float → Answer
+pointAnswer bytes u v t = afterReading (surfaceFile bytes) u v t

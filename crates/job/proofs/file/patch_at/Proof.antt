@@ -1,0 +1,67 @@
+-- `job::file::patch_at` meets its contract: each way out has its tests, and what it calls its own. Assumes nothing.
+use borrow.Author.Needs.{needs}
+use Rattle.job.specs.File.{patchAt}
+use Rattle.job.proofs.file.patch_at.Statement.{statement}
+use Rattle.job.proofs.file.patch_at.Tie as tie
+
+add-frame : tie.Need-add-frame
+add-frame c = search needs
+
+frame-requires : tie.Need-frame-requires
+frame-requires c κs = search needs
+
+add-number : tie.Need-add-number
+add-number c = search needs
+
+number-requires : tie.Need-number-requires
+number-requires c κs = search needs
+
+add-number-2 : tie.Need-add-number-2
+add-number-2 c = search needs
+
+number-requires-2 : tie.Need-number-requires-2
+number-requires-2 c κs = search needs
+
+surface-of-requires : tie.Need-surface-of-requires
+surface-of-requires c κs = search needs
+
+add-window : tie.Need-add-window
+add-window c = search needs
+
+has-mark-requires : tie.Need-has-mark-requires
+has-mark-requires c κs = search needs
+
+window-requires : tie.Need-window-requires
+window-requires c κs = search needs
+
+add-window-2 : tie.Need-add-window-2
+add-window-2 c = search needs
+
+has-mark-requires-2 : tie.Need-has-mark-requires-2
+has-mark-requires-2 c κs = search needs
+
+window-requires-2 : tie.Need-window-requires-2
+window-requires-2 c κs = search needs
+
+returns : tie.Need-returns
+unfolding patchAt
+returns c = rw (c .window2 .ensures, c .before .has-mark2 .ensures, c .before .before .window .ensures, c .before .before .before .has-mark .ensures, c .before .before .before .before .surface-of .ensures, c .before .before .before .before .before .number2 .ensures, c .before .before .before .before .before .before .number .ensures, c .before .before .before .before .before .before .before .frame .ensures)
+
+pub patch-at-spec : {M : Type 1} → statement M
+patch-at-spec =
+    tie.close
+    (tie.spec
+    add-frame
+    frame-requires
+    add-number
+    number-requires
+    add-number-2
+    number-requires-2
+    surface-of-requires
+    add-window
+    has-mark-requires
+    window-requires
+    add-window-2
+    has-mark-requires-2
+    window-requires-2
+    returns)

@@ -1,0 +1,29 @@
+-- `job::file::point` meets its contract: each way out has its tests, and what it calls its own. Assumes nothing.
+use borrow.Author.Needs.{needs}
+use Rattle.job.specs.File.{pointAt}
+use Rattle.job.proofs.file.point.Statement.{statement}
+use Rattle.job.proofs.file.point.Tie as tie
+
+number-requires : tie.Need-number-requires
+number-requires c κs = search needs
+
+add-number : tie.Need-add-number
+add-number c = search needs
+
+number-requires-2 : tie.Need-number-requires-2
+number-requires-2 c κs = search needs
+
+add-number-2 : tie.Need-add-number-2
+add-number-2 c = search needs
+
+number-requires-3 : tie.Need-number-requires-3
+number-requires-3 c κs = search needs
+
+returns : tie.Need-returns
+unfolding pointAt
+returns c = rw (c .number3 .ensures, c .before .number2 .ensures, c .before .before .number .ensures)
+
+pub point-spec : {M : Type 1} → statement M
+point-spec =
+    tie.close
+    (tie.spec number-requires add-number number-requires-2 add-number-2 number-requires-3 returns)

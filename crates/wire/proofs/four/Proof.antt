@@ -1,0 +1,28 @@
+-- `wire::four` meets its contract: each way out has its tests, and what it calls its own. Assumes nothing.
+use borrow.Author.Needs.{needs}
+use native.Mathlib.Omega.{arith}
+use Rattle.wire.specs.Wire.{fourAt}
+use Rattle.wire.proofs.four.Statement.{statement}
+use Rattle.wire.proofs.four.Tie as tie
+
+two-requires : tie.Need-two-requires
+two-requires c κs = search needs
+
+mul-result : tie.Need-mul-result
+mul-result c = search needs
+
+add-two : tie.Need-add-two
+add-two c = search needs
+
+two-requires-2 : tie.Need-two-requires-2
+two-requires-2 c κs = search needs
+
+add-result : tie.Need-add-result
+add-result c = search needs
+
+returns : tie.Need-returns
+unfolding fourAt
+returns c = (rw (c .two2 .ensures .0, c .before .two .ensures .0), omega arith)
+
+pub four-spec : {M : Type 1} → statement M
+four-spec = tie.close (tie.spec two-requires mul-result add-two two-requires-2 add-result returns)

@@ -1,0 +1,43 @@
+/* The proved line where two analytic surfaces meet: the C interface of the archive that `rt staticlib capi` writes.
+ *
+ * A slice passes as a pointer and a length, the pointer not null even where the length is 0. What is lent as `const` is not written; lent
+ * slices must not overlap. No call demands anything else of its input: what is unfit is refused under a number (docs/RULES.md), and a
+ * refused call writes nothing unless said here. Every NaN counts as one. */
+#ifndef GEOMCORE_H
+#define GEOMCORE_H
+
+#include <stddef.h>
+#include <stdint.h>
+
+#ifdef __cplusplus
+extern "C" {
+#endif
+
+/* The bytes of one surface in a job file, and of the whole file (docs/RULES.md, "The job file"). */
+#define GEOMCORE_SURFACE_BYTES 146
+#define GEOMCORE_JOB_BYTES 347
+
+double geomcore_sqrt(double x);
+double geomcore_sin(double x); /* a NaN beyond reach: docs/RULES.md */
+double geomcore_cos(double x);
+double geomcore_atan2(double y, double x);
+
+/* The point at (u, v) of a surface given by its 146 bytes: 0, and x, y, z in the first three numbers of out; or the refusal's number.
+ * Fewer than 146 bytes are refused by 19, fewer than three numbers lent by 8. */
+uint64_t geomcore_point(const uint8_t *surface, size_t bytes, double u, double v, double *out, size_t room);
+
+/* Whether a trace of count points, seven numbers each (x, y, z, u, v on A, u, v on B), with its start's index and closing code, passes the
+ * check against the surfaces and tolerance of a job file (its guess and cap aren't read): 0, or the refusal's number + 2^32 times the
+ * index of the point that 13 to 16 name. */
+uint64_t geomcore_check(const uint8_t *job, size_t bytes, const double *buffer, size_t lent, uint64_t count,
+                        uint64_t start, uint64_t code);
+
+/* Whether a trace of count points crosses a box: the refusal's number + 256 if it does. corners: low x, y, z, then high. */
+uint64_t geomcore_crossing(double confusion, double angular, const double *buffer, size_t lent, uint64_t count,
+                           const double *corners, size_t given);
+
+#ifdef __cplusplus
+}
+#endif
+
+#endif

@@ -1,0 +1,172 @@
+//! Safe calls of the proved code in the archive that `rt staticlib capi` writes. No dependencies.
+//!
+//! Unfit input is refused under a number (docs/RULES.md) and never panics. Surfaces and jobs are the bytes of the job file, which
+//! `tools/job.py` writes from readable text.
+
+extern "C" {
+    fn geomcore_sqrt(x: f64) -> f64;
+    fn geomcore_sin(x: f64) -> f64;
+    fn geomcore_cos(x: f64) -> f64;
+    fn geomcore_atan2(y: f64, x: f64) -> f64;
+    fn geomcore_point(
+        surface: *const u8,
+        bytes: usize,
+        u: f64,
+        v: f64,
+        out: *mut f64,
+        room: usize,
+    ) -> u64;
+    fn geomcore_check(
+        job: *const u8,
+        bytes: usize,
+        buffer: *const f64,
+        lent: usize,
+        count: u64,
+        start: u64,
+        code: u64,
+    ) -> u64;
+    fn geomcore_crossing(
+        confusion: f64,
+        angular: f64,
+        buffer: *const f64,
+        lent: usize,
+        count: u64,
+        corners: *const f64,
+        given: usize,
+    ) -> u64;
+}
+
+/// The bytes of one surface in a job file.
+pub const SURFACE_BYTES: usize = 146;
+/// The bytes of a job file.
+pub const JOB_BYTES: usize = 347;
+/// Where surface A and surface B begin in a job file.
+pub const SURFACE_A: usize = 5;
+pub const SURFACE_B: usize = 151;
+
+/// Why a call was refused: the number, and the index of the point that 13 to 16 name (0 for the others).
+#[derive(Clone, Copy, Debug, PartialEq, Eq)]
+pub struct Refusal {
+    pub number: u8,
+    pub index: u32,
+}
+
+impl Refusal {
+    /// The refusal in the low byte of an answer's word, if there is one.
+    fn of(word: u64, index: u32) -> Option<Refusal> {
+        match word as u8 {
+            0 => None,
+            number => Some(Refusal { number, index }),
+        }
+    }
+}
+
+impl std::fmt::Display for Refusal {
+    fn fmt(&self, f: &mut std::fmt::Formatter<'_>) -> std::fmt::Result {
+        match self.number {
+            13..=16 => write!(f, "refused {} at point {}", self.number, self.index),
+            _ => write!(f, "refused {}", self.number),
+        }
+    }
+}
+
+impl std::error::Error for Refusal {}
+
+/// The square root, correctly rounded.
+pub fn sqrt(x: f64) -> f64 {
+    // SAFETY: numbers in, a number out.
+    unsafe { geomcore_sqrt(x) }
+}
+
+/// fdlibm's sine; a NaN beyond reach.
+pub fn sin(x: f64) -> f64 {
+    // SAFETY: as above.
+    unsafe { geomcore_sin(x) }
+}
+
+/// fdlibm's cosine; a NaN beyond reach.
+pub fn cos(x: f64) -> f64 {
+    // SAFETY: as above.
+    unsafe { geomcore_cos(x) }
+}
+
+/// fdlibm's angle of the point (x, y).
+pub fn atan2(y: f64, x: f64) -> f64 {
+    // SAFETY: as above.
+    unsafe { geomcore_atan2(y, x) }
+}
+
+/// The point at (u, v) of a surface given by its 146 bytes of the job file.
+pub fn point(surface: &[u8], u: f64, v: f64) -> Result<[f64; 3], Refusal> {
+    let mut out = [0.0; 3];
+    // SAFETY: each pointer comes with the length of what it was taken from; the callee keeps neither and writes `out` alone.
+    let word = unsafe {
+        geomcore_point(
+            surface.as_ptr(),
+            surface.len(),
+            u,
+            v,
+            out.as_mut_ptr(),
+            out.len(),
+        )
+    };
+    Refusal::of(word, 0).map_or(Ok(out), Err)
+}
+
+/// How a line closes: open, closed forward or closed backward.
+#[derive(Clone, Copy, Debug, PartialEq, Eq)]
+pub enum Closing {
+    Open,
+    Forward,
+    Backward,
+}
+
+/// A line in a lent buffer, seven numbers a point: how many points, which is the start, and how it closes.
+#[derive(Clone, Copy, Debug, PartialEq, Eq)]
+pub struct Line {
+    pub count: usize,
+    pub start: usize,
+    pub closing: Closing,
+}
+
+/// Whether a line passes the check against the surfaces and tolerance of a job file; its guess and cap aren't read.
+pub fn check(job: &[u8], buffer: &[f64], line: Line) -> Result<(), Refusal> {
+    // SAFETY: each pointer comes with the length of what it was taken from; the callee keeps neither and writes nothing.
+    let word = unsafe {
+        geomcore_check(
+            job.as_ptr(),
+            job.len(),
+            buffer.as_ptr(),
+            buffer.len(),
+            line.count as u64,
+            line.start as u64,
+            line.closing as u64,
+        )
+    };
+    Refusal::of(word, (word >> 32) as u32).map_or(Ok(()), Err)
+}
+
+/// Whether the first `count` points of a trace cross a box.
+pub fn crossing(
+    confusion: f64,
+    angular: f64,
+    buffer: &[f64],
+    count: usize,
+    low: [f64; 3],
+    high: [f64; 3],
+) -> Result<bool, Refusal> {
+    let corners = [low[0], low[1], low[2], high[0], high[1], high[2]];
+    // SAFETY: each pointer comes with the length of what it was taken from; the callee keeps neither and writes nothing.
+    let word = unsafe {
+        geomcore_crossing(
+            confusion,
+            angular,
+            buffer.as_ptr(),
+            buffer.len(),
+            count as u64,
+            corners.as_ptr(),
+            corners.len(),
+        )
+    };
+    Refusal::of(word, 0).map_or(Ok(word & 0x100 != 0), Err)
+}
