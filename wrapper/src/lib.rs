@@ -8,7 +8,14 @@ extern "C" {
     fn geomcore_sin(x: f64) -> f64;
     fn geomcore_cos(x: f64) -> f64;
     fn geomcore_atan2(y: f64, x: f64) -> f64;
-    fn geomcore_point(surface: *const u8, bytes: usize, u: f64, v: f64, out: *mut f64, room: usize) -> u64;
+    fn geomcore_point(
+        surface: *const u8,
+        bytes: usize,
+        u: f64,
+        v: f64,
+        out: *mut f64,
+        room: usize,
+    ) -> u64;
     fn geomcore_trace(job: *const u8, bytes: usize, buffer: *mut f64, lent: usize) -> u64;
     fn geomcore_check(
         job: *const u8,
@@ -94,7 +101,16 @@ pub fn atan2(y: f64, x: f64) -> f64 {
 pub fn point(surface: &[u8], u: f64, v: f64) -> Result<[f64; 3], Refusal> {
     let mut out = [0.0; 3];
     // SAFETY: each pointer comes with the length of what it was taken from; the callee keeps neither and writes `out` alone.
-    let word = unsafe { geomcore_point(surface.as_ptr(), surface.len(), u, v, out.as_mut_ptr(), out.len()) };
+    let word = unsafe {
+        geomcore_point(
+            surface.as_ptr(),
+            surface.len(),
+            u,
+            v,
+            out.as_mut_ptr(),
+            out.len(),
+        )
+    };
     Refusal::of(word, 0).map_or(Ok(out), Err)
 }
 
@@ -122,7 +138,8 @@ pub const fn room(cap: u16) -> usize {
 /// Walks the line that a job file asks for over the lent numbers.
 pub fn trace(job: &[u8], buffer: &mut [f64]) -> Result<Line, Refusal> {
     // SAFETY: each pointer comes with the length of what it was taken from; the callee keeps neither and writes `buffer` alone.
-    let word = unsafe { geomcore_trace(job.as_ptr(), job.len(), buffer.as_mut_ptr(), buffer.len()) };
+    let word =
+        unsafe { geomcore_trace(job.as_ptr(), job.len(), buffer.as_mut_ptr(), buffer.len()) };
     if let Some(refusal) = Refusal::of(word, 0) {
         return Err(refusal);
     }
@@ -132,7 +149,11 @@ pub fn trace(job: &[u8], buffer: &mut [f64]) -> Result<Line, Refusal> {
         _ => Closing::Backward,
     };
     let start = (word >> 16 & 0xffff) as usize;
-    Ok(Line { count: (word >> 32) as usize, start, closing })
+    Ok(Line {
+        count: (word >> 32) as usize,
+        start,
+        closing,
+    })
 }
 
 /// Whether a line passes the check against the surfaces and tolerance of a job file; its guess and cap aren't read.

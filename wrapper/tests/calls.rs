@@ -23,9 +23,24 @@ fn example() -> Vec<u8> {
 /// Example 2's surface: a cylinder of radius 2 in the unit frame, both windows without end.
 fn cylinder() -> Vec<u8> {
     let numbers = [
-        0.0, 0.0, 0.0, 1.0, 0.0, 0.0, 0.0, 1.0, 0.0, 0.0, 0.0, 1.0, // origin, x, y, z
-        2.0, 0.0, // sizes
-        f64::NEG_INFINITY, f64::INFINITY, f64::NEG_INFINITY, f64::INFINITY,
+        0.0,
+        0.0,
+        0.0,
+        1.0,
+        0.0,
+        0.0,
+        0.0,
+        1.0,
+        0.0,
+        0.0,
+        0.0,
+        1.0, // origin, x, y, z
+        2.0,
+        0.0, // sizes
+        f64::NEG_INFINITY,
+        f64::INFINITY,
+        f64::NEG_INFINITY,
+        f64::INFINITY,
     ];
     let mut bytes = vec![1, 0];
     bytes.extend(numbers.iter().flat_map(|x: &f64| x.to_be_bytes()));
@@ -37,8 +52,16 @@ fn point_of_a_cylinder() {
     let mut surface = cylinder();
     assert_eq!(surface.len(), geomcore::SURFACE_BYTES);
     assert_eq!(geomcore::point(&surface, 0.0, 5.0), Ok([2.0, 0.0, 5.0]));
-    assert_eq!(geomcore::point(&surface, f64::NAN, 5.0).unwrap_err().number, 6);
-    assert_eq!(geomcore::point(&surface[..145], 0.0, 5.0).unwrap_err().number, 19);
+    assert_eq!(
+        geomcore::point(&surface, f64::NAN, 5.0).unwrap_err().number,
+        6
+    );
+    assert_eq!(
+        geomcore::point(&surface[..145], 0.0, 5.0)
+            .unwrap_err()
+            .number,
+        19
+    );
     surface[0] = 5;
     assert_eq!(geomcore::point(&surface, 0.0, 5.0).unwrap_err().number, 19);
 }
@@ -49,7 +72,16 @@ fn crossing_of_four_points() {
     for i in 0..4 {
         buffer[7 * i] = 0.1 * i as f64;
     }
-    let cross = |y: f64| geomcore::crossing(2f64.powi(-20), 1e-12, &buffer, 4, [0.15, y, 0.0], [0.15, y, 0.0]);
+    let cross = |y: f64| {
+        geomcore::crossing(
+            2f64.powi(-20),
+            1e-12,
+            &buffer,
+            4,
+            [0.15, y, 0.0],
+            [0.15, y, 0.0],
+        )
+    };
     assert_eq!(cross(0.005), Ok(true));
     assert_eq!(cross(0.01), Ok(false));
     assert_eq!(cross(f64::NAN).unwrap_err().number, 17);
@@ -60,10 +92,20 @@ fn example_10() {
     let job = example();
     let mut buffer = vec![1.0; geomcore::room(500)];
     let line = geomcore::trace(&job, &mut buffer).unwrap();
-    assert_eq!(line, geomcore::Line { count: 5, start: 2, closing: geomcore::Closing::Open });
+    assert_eq!(
+        line,
+        geomcore::Line {
+            count: 5,
+            start: 2,
+            closing: geomcore::Closing::Open
+        }
+    );
     assert_eq!(geomcore::check(&job, &buffer, line), Ok(()));
     assert_eq!(buffer[35..], vec![0.0; geomcore::room(500) - 35]);
-    assert_eq!(geomcore::trace(&job, &mut buffer[1..]).unwrap_err().number, 8);
+    assert_eq!(
+        geomcore::trace(&job, &mut buffer[1..]).unwrap_err().number,
+        8
+    );
 }
 
 #[test]
@@ -77,11 +119,28 @@ fn check_of_a_line() {
         buffer[7 * i + 3] = x;
         buffer[7 * i + 5] = x;
     }
-    let line = |count| Line { count, start: 0, closing: Closing::Open };
+    let line = |count| Line {
+        count,
+        start: 0,
+        closing: Closing::Open,
+    };
     assert_eq!(geomcore::check(&job, &buffer, line(4)), Ok(()));
-    assert_eq!(geomcore::check(&job, &buffer, line(3)).unwrap_err().number, 12);
-    assert_eq!(geomcore::check(&job, &buffer[1..], line(4)).unwrap_err().number, 8);
-    assert_eq!(geomcore::check(&job[1..], &buffer, line(4)).unwrap_err().number, 19);
+    assert_eq!(
+        geomcore::check(&job, &buffer, line(3)).unwrap_err().number,
+        12
+    );
+    assert_eq!(
+        geomcore::check(&job, &buffer[1..], line(4))
+            .unwrap_err()
+            .number,
+        8
+    );
+    assert_eq!(
+        geomcore::check(&job[1..], &buffer, line(4))
+            .unwrap_err()
+            .number,
+        19
+    );
     buffer[14] = 0.25;
     let refused = geomcore::check(&job, &buffer, line(4)).unwrap_err();
     assert_eq!((refused.number, refused.index), (13, 2));

@@ -16,11 +16,11 @@ use Rattle.job.specs.Line.{digitOf, spell, decimalOf, traceWord, refused
 drop-here : (l : List ℕ) (k x : ℕ) → k < length l → drop k (set l k x) ≡ x ∷ drop (suc k) l
 drop-here l k x h = ap (drop k) (set-split l k x h) ∙ drop-at (take k l) (x ∷ drop (suc k) l) k (length-take-le k l (omega arith))
 
-spell-more : (k rest : ℕ) (tail : List ℕ) → 10 ≤ rest → spell (suc k) rest tail ≡ spell k (rest / 10) (digitOf (rest % 10) ∷ tail)
+pub spell-more : (k rest : ℕ) (tail : List ℕ) → 10 ≤ rest → spell (suc k) rest tail ≡ spell k (rest / 10) (digitOf (rest % 10) ∷ tail)
 unfolding spell
 spell-more k rest tail h = rw (le-ltb rest 10 h)
 
-spell-last : (k rest : ℕ) (tail : List ℕ) → rest < 10 → spell (suc k) rest tail ≡ digitOf (rest % 10) ∷ tail
+pub spell-last : (k rest : ℕ) (tail : List ℕ) → rest < 10 → spell (suc k) rest tail ≡ digitOf (rest % 10) ∷ tail
 unfolding spell
 spell-last k rest tail h = rw (lt-ltb rest 10 h)
 

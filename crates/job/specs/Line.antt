@@ -1,6 +1,6 @@
 -- The line that answers a job, as ASCII bytes. Definitions only.
 use mathlib.Core.List.{List, [], _∷_, _++_}
-use Prim.Native.Nat.{ℕ, zero, suc, _+_, _/_, _%_}
+use Prim.Native.Nat.{ℕ, zero, suc, _+_, _*_, _-_, _/_, _%_}
 use lib.Dec.{ltb}
 use lib.ListN.{length, take, drop}
 use Rattle.loops.specs.Loop.{pick}
@@ -17,6 +17,11 @@ spell (suc k) n tail = pick (ltb n 10) (digitOf (n % 10) ∷ tail) (spell k (n /
 -- "in decimal": a number below 2^64 has at most 20 digits
 unfoldable pub decimalOf : ℕ → List ℕ
 decimalOf n = spell 20 n []
+
+-- the number that digits stand for, behind a number whose digits stand before them
+unfoldable pub valueOf : List ℕ → ℕ → ℕ
+valueOf [] a = a
+valueOf (d ∷ ds) a = valueOf ds (a * 10 + (d - 48))
 
 abbrev pub space : List ℕ
 space = 32 ∷ []
