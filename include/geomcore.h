@@ -26,6 +26,11 @@ double geomcore_atan2(double y, double x);
  * Fewer than 146 bytes are refused by 19, fewer than three numbers lent by 8. */
 uint64_t geomcore_point(const uint8_t *surface, size_t bytes, double u, double v, double *out, size_t room);
 
+/* Walks the line where the two surfaces of a job file meet, over the lent numbers, at least 7 (2 cap + 1) of them: the refusal's number
+ * + 2^8 times the closing code (0 open, 1 closed forward, 2 closed backward) + 2^16 times the start's index + 2^32 times the count of
+ * points. Seven numbers a point stand first (x, y, z, u, v on A, u, v on B), then zeros; refusals 9 to 11 leave zeros alone. */
+uint64_t geomcore_trace(const uint8_t *job, size_t bytes, double *buffer, size_t lent);
+
 /* Whether a trace of count points, seven numbers each (x, y, z, u, v on A, u, v on B), with its start's index and closing code, passes the
  * check against the surfaces and tolerance of a job file (its guess and cap aren't read): 0, or the refusal's number + 2^32 times the
  * index of the point that 13 to 16 name. */

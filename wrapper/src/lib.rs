@@ -16,6 +16,7 @@ extern "C" {
         out: *mut f64,
         room: usize,
     ) -> u64;
+    fn geomcore_trace(job: *const u8, bytes: usize, buffer: *mut f64, lent: usize) -> u64;
     fn geomcore_check(
         job: *const u8,
         bytes: usize,
@@ -127,6 +128,32 @@ pub struct Line {
     pub count: usize,
     pub start: usize,
     pub closing: Closing,
+}
+
+/// How many numbers the walk of a step cap asks for: seven for each of 2 cap + 1 points.
+pub const fn room(cap: u16) -> usize {
+    7 * (2 * cap as usize + 1)
+}
+
+/// Walks the line that a job file asks for over the lent numbers.
+pub fn trace(job: &[u8], buffer: &mut [f64]) -> Result<Line, Refusal> {
+    // SAFETY: each pointer comes with the length of what it was taken from; the callee keeps neither and writes `buffer` alone.
+    let word =
+        unsafe { geomcore_trace(job.as_ptr(), job.len(), buffer.as_mut_ptr(), buffer.len()) };
+    if let Some(refusal) = Refusal::of(word, 0) {
+        return Err(refusal);
+    }
+    let closing = match word >> 8 & 0xff {
+        0 => Closing::Open,
+        1 => Closing::Forward,
+        _ => Closing::Backward,
+    };
+    let start = (word >> 16 & 0xffff) as usize;
+    Ok(Line {
+        count: (word >> 32) as usize,
+        start,
+        closing,
+    })
 }
 
 /// Whether a line passes the check against the surfaces and tolerance of a job file; its guess and cap aren't read.

@@ -88,6 +88,27 @@ fn crossing_of_four_points() {
 }
 
 #[test]
+fn example_10() {
+    let job = example();
+    let mut buffer = vec![1.0; geomcore::room(500)];
+    let line = geomcore::trace(&job, &mut buffer).unwrap();
+    assert_eq!(
+        line,
+        geomcore::Line {
+            count: 5,
+            start: 2,
+            closing: geomcore::Closing::Open
+        }
+    );
+    assert_eq!(geomcore::check(&job, &buffer, line), Ok(()));
+    assert_eq!(buffer[35..], vec![0.0; geomcore::room(500) - 35]);
+    assert_eq!(
+        geomcore::trace(&job, &mut buffer[1..]).unwrap_err().number,
+        8
+    );
+}
+
+#[test]
 fn check_of_a_line() {
     use geomcore::{Closing, Line};
     let job = example();

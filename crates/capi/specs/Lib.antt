@@ -1,4 +1,5 @@
 pub mod Answer
 pub mod Point
+pub mod Trace
 pub mod Check
 pub mod Crossing

@@ -10,6 +10,7 @@ use job::JobRead;
 use job::SurfaceRead;
 use patch::Located;
 use patch::Patch;
+use walk::Traced;
 ghost use mathlib.Core.Path.{_≡_};
 ghost use Prim.Native.Nat.{_+_, _≤_};
 ghost use lib.ListN.{length};
@@ -17,6 +18,7 @@ ghost use Rattle.capi.specs.Answer.{answered};
 ghost use Rattle.capi.specs.Check.{checkedWord, checkAnswer};
 ghost use Rattle.capi.specs.Crossing.{wordOf, cornerAt, crossingWord};
 ghost use Rattle.capi.specs.Point.{put3, pointOn, pointAnswer};
+ghost use Rattle.capi.specs.Trace.{tracedWord, traceAnswer};
 ghost use Rattle.fdlibm.specs.Arctangent.{atan2Of};
 ghost use Rattle.fdlibm.specs.Sine.{sinOf, cosOf};
 ghost use Rattle.sqrt.specs.Sqrt.{sqrtOf};
@@ -90,6 +92,39 @@ pub extern "C" fn geomcore_point(surface: &[u8], u: f64, v: f64, out: &mut [f64]
     match read {
         SurfaceRead::Refused(refusal) => refusal.number(),
         SurfaceRead::Whole(patch) => point_on(patch, u, v, out),
+    }
+}
+
+// The answer's word: the refusal's number, or 2^8 times the code, 2^16 times the start's index and 2^32 times the count. Each has its
+// own place in the word: a count is at most 4001.
+fn traced_word(answer: Traced) -> u64
+    ensures { λ r. ⌜ r ≡ tracedWord answer ⌝ }
+{
+    match answer {
+        Traced::Line(count, start, code) => {
+            let low = std::num::wrapping_add_u64((code as u64) << 8, (start as u64) << 16);
+            std::num::wrapping_add_u64(low, (count as u64) << 32)
+        }
+        Traced::Refused(refusal) => refusal.number(),
+    }
+}
+
+// Walks the line that a job file asks for over the lent numbers, which may be any.
+#[no_mangle]
+pub extern "C" fn geomcore_trace(job: &[u8], buffer: &mut [f64]) -> u64
+    ensures { λ r. ⌜ answered r (now (buffer .exit)) ≡ traceAnswer (now (job .entry)) (now (buffer .entry)) ⌝ }
+{
+    let read = job::file::read(job);
+    match read {
+        JobRead::Refused(refusal) => refusal.number(),
+        JobRead::Whole(asked) => traced_word(walk::trace::trace(
+            asked.a,
+            asked.b,
+            asked.tol,
+            asked.guess,
+            asked.cap,
+            buffer,
+        )),
     }
 }
 

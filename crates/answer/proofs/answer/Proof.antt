@@ -1,0 +1,18 @@
+-- `answer::answer` meets its contract: each way out has its tests, and what it calls its own. Assumes nothing.
+use borrow.Author.Needs.{needs}
+use Rattle.answer.specs.Answer.{jobAnswer}
+use Rattle.answer.proofs.answer.Statement.{statement}
+use Rattle.answer.proofs.answer.Tie as tie
+
+answer-of-requires : tie.Need-answer-of-requires
+answer-of-requires c κs = search needs
+
+put-line-requires : tie.Need-put-line-requires
+put-line-requires c κs = search needs
+
+returns : tie.Need-returns
+unfolding jobAnswer
+returns c = rw (← c .before .before .answer-of .ensures) (c .put-line .ensures)
+
+pub answer-spec : {M : Type 1} → statement M
+answer-spec = tie.close (tie.spec answer-of-requires put-line-requires returns)

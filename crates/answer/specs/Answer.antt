@@ -1,0 +1,34 @@
+-- The line that answers a job, from the bytes of its file alone. Definitions only.
+use mathlib.Core.List.{List}
+use Prim.Native.Nat.{ℕ}
+use lib.ListN.{replicate}
+use lib.Ieee.{Float}
+use Rattle.number.specs.Operators.{bits}
+use Rattle.refusal.specs.Refusal.{numberOf}
+use Rattle.walk.specs.declared.answer.Traced.{Traced}
+use Rattle.walk.specs.declared.answer.Traced.the-variants as traced
+use Rattle.walk.specs.Trace.{traceOf}
+use Rattle.job.specs.declared.file.JobRead.{JobRead}
+use Rattle.job.specs.declared.file.JobRead.the-variants.{Whole, Refused}
+use Rattle.job.specs.File.{jobOf}
+use Rattle.job.specs.Line.{traceLine, refusedLine}
+
+-- "It writes one line: `trace`, count, start index, code in decimal, or `refused` and the number."
+unfoldable pub answerLine : Traced → List ℕ
+answerLine (traced.Line count start code) = traceLine count start code
+answerLine (traced.Refused r) = refusedLine (numberOf r)
+
+-- "It lends 7,007 numbers": zeros at first
+unfoldable pub lentNumbers : List Float
+lentNumbers = replicate 7007 (bits 0)
+
+abbrev pub afterReading : JobRead → Traced
+afterReading (Refused r) = traced.Refused r
+afterReading (Whole j) = traceOf (j .a) (j .b) (j .tol) (j .guess) (j .cap) lentNumbers .answer
+
+-- 19 is "tested before all else"; then the walk answers
+unfoldable pub answerOf : List ℕ → Traced
+answerOf bytes = afterReading (jobOf bytes)
+
+unfoldable pub jobAnswer : List ℕ → List ℕ
+jobAnswer bytes = answerLine (answerOf bytes)

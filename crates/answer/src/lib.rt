@@ -1,0 +1,47 @@
+//! A job answered: its file read, the line walked over numbers lent here, and the answer's line made.
+use job::JobRead;
+use walk::Traced;
+ghost use mathlib.Core.Path.{_≡_};
+ghost use lib.ListN.{length};
+ghost use Rattle.job.specs.Line.{written};
+ghost use Rattle.answer.specs.Answer.{answerLine, answerOf, jobAnswer};
+
+// Puts the answer's line at the front of the lent bytes; how many it has.
+fn put_line(answer: Traced, line: &mut [u8; 69]) -> usize
+    ensures { λ r. ⌜ (r ≡ length (answerLine answer)) × (now (line .exit) ≡ written (answerLine answer) (now (line .entry))) ⌝ }
+{
+    match answer {
+        Traced::Line(count, start, code) => {
+            job::line::trace_line(count as u64, start as u64, code as u64, line)
+        }
+        Traced::Refused(refusal) => job::line::refused_line(refusal.number(), line),
+    }
+}
+
+// The answer to a job: refusal 19 of its file, or what the walk answers over 7,007 numbers.
+fn answer_of(input: &[u8]) -> Traced
+    ensures { λ r. ⌜ r ≡ answerOf (now (input .entry)) ⌝ }
+{
+    let read = job::file::read(input);
+    match read {
+        JobRead::Refused(refusal) => Traced::Refused(refusal),
+        JobRead::Whole(asked) => {
+            let mut lent = [0.0; 7007];
+            walk::trace::trace(
+                asked.a,
+                asked.b,
+                asked.tol,
+                asked.guess,
+                asked.cap,
+                &mut lent,
+            )
+        }
+    }
+}
+
+// Puts the line that answers a job file at the front of the lent bytes; how many it has.
+pub fn answer(input: &[u8], line: &mut [u8; 69]) -> usize
+    ensures { λ r. ⌜ (r ≡ length (jobAnswer (now (input .entry)))) × (now (line .exit) ≡ written (jobAnswer (now (input .entry))) (now (line .entry))) ⌝ }
+{
+    put_line(answer_of(input), line)
+}

@@ -1,0 +1,28 @@
+-- The trace's word and the lent numbers after it. Definitions only.
+use mathlib.Core.List.{List}
+use Prim.Native.Nat.{ℕ}
+use lib.Ieee.{Float}
+use Rattle.refusal.specs.Refusal.{numberOf}
+use Rattle.walk.specs.declared.answer.Traced.{Traced}
+use Rattle.walk.specs.declared.answer.Traced.the-variants as traced
+use Rattle.walk.specs.Trace.{Outcome, traceOf}
+use Rattle.job.specs.declared.file.JobRead.{JobRead}
+use Rattle.job.specs.declared.file.JobRead.the-variants.{Whole, Refused}
+use Rattle.job.specs.File.{jobOf}
+use Rattle.capi.specs.Answer.{Answer, answered, plus, shifted}
+
+-- "number + 2^8·code + 2^16·start + 2^32·count"
+unfoldable pub tracedWord : Traced → ℕ
+tracedWord (traced.Line count start code) = plus (plus (shifted code 8) (shifted start 16)) (shifted count 32)
+tracedWord (traced.Refused r) = numberOf r
+
+abbrev pub outcomeAnswer : Outcome → Answer
+outcomeAnswer o = answered (tracedWord (o .answer)) (o .buffer)
+
+abbrev pub afterReading : JobRead → List Float → Answer
+afterReading (Refused r) t = answered (numberOf r) t
+afterReading (Whole j) t = outcomeAnswer (traceOf (j .a) (j .b) (j .tol) (j .guess) (j .cap) t)
+
+-- "job: the 347 bytes; the lent buffer may have any length"
+unfoldable pub traceAnswer : List ℕ → List Float → Answer
+traceAnswer bytes t = afterReading (jobOf bytes) t
