@@ -98,7 +98,7 @@ fn point_answer(a: Patch, b: Patch, confusion: f64, p: Point3D, x: Parameters, i
         return Checked::Refused(Refusal::NotOwnPoint(i as u64));
     }
     let other = b.surface;
-    if fresh.distance(other.eval_point(x.u2, x.v2)) <= confusion {
+    if fresh.within(other.eval_point(x.u2, x.v2), confusion) {
         Checked::Passed
     } else {
         Checked::Refused(Refusal::Gap(i as u64))
@@ -131,7 +131,7 @@ fn chord_fits(points: &[f64], count: usize, closing: usize, i: usize) -> bool
         return true;
     }
     let p = point_at(points, i);
-    p.distance(point_at(points, i - 1)) <= 0.2
+    p.within(point_at(points, i - 1), 0.2)
 }
 
 // Refusals 14, 13, 15 and 16 of point i.

@@ -25,14 +25,14 @@ sub-point-at c = search needs
 point-at-requires-2 : tie.Need-point-at-requires-2
 point-at-requires-2 c κs = search needs
 
-distance-requires : tie.Need-distance-requires
-distance-requires c κs = search needs
+within-requires : tie.Need-within-requires
+within-requires c κs = search needs
 
 returns-3 : tie.Need-returns-3
 unfolding chordFits
 returns-3 c =
     let e = c .before .before .before in
-    rw (c .distance .ensures, c .before .point-at2 .ensures, c .before .before .point-at .ensures, ne-eqb _ _ (e .before .before .if1 .left), ← e .before .closing-chord .ensures, e .if2 .left)
+    rw (c .within .ensures, c .before .point-at2 .ensures, c .before .before .point-at .ensures, ne-eqb _ _ (e .before .before .if1 .left), ← e .before .closing-chord .ensures, e .if2 .left)
 
 pub chord-fits-spec : {M : Type 1} → statement M
 chord-fits-spec =
@@ -44,5 +44,5 @@ chord-fits-spec =
     point-at-requires
     sub-point-at
     point-at-requires-2
-    distance-requires
+    within-requires
     returns-3)

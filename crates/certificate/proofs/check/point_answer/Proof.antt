@@ -28,8 +28,8 @@ returns-2 c =
 eval-point-requires-2 : tie.Need-eval-point-requires-2
 eval-point-requires-2 c κs = search needs
 
-distance-requires : tie.Need-distance-requires
-distance-requires c κs = search needs
+within-requires : tie.Need-within-requires
+within-requires c κs = search needs
 
 returns-3 : tie.Need-returns-3
 unfolding pointAnswer
@@ -37,7 +37,7 @@ returns-3 c =
     let e = c .before .before in
     let o = e .before .before in
     let n = o .before .before in
-    rw (← n .before .inside .ensures, not-false (n .before .inside .result) (n .if1 .left), ← o .before .eval-point .ensures, ← o .own .ensures, not-false (o .own .result) (e .before .if2 .left), ← e .eval-point2 .ensures, ← c .before .distance .ensures, c .if3 .taken)
+    rw (← n .before .inside .ensures, not-false (n .before .inside .result) (n .if1 .left), ← o .before .eval-point .ensures, ← o .own .ensures, not-false (o .own .result) (e .before .if2 .left), ← e .eval-point2 .ensures, ← c .before .within .ensures, c .if3 .taken)
 
 returns-4 : tie.Need-returns-4
 unfolding pointAnswer
@@ -45,7 +45,7 @@ returns-4 c =
     let e = c .before .before in
     let o = e .before .before in
     let n = o .before .before in
-    rw (← n .before .inside .ensures, not-false (n .before .inside .result) (n .if1 .left), ← o .before .eval-point .ensures, ← o .own .ensures, not-false (o .own .result) (e .before .if2 .left), ← e .eval-point2 .ensures, ← c .before .distance .ensures, c .if3 .left)
+    rw (← n .before .inside .ensures, not-false (n .before .inside .result) (n .if1 .left), ← o .before .eval-point .ensures, ← o .own .ensures, not-false (o .own .result) (e .before .if2 .left), ← e .eval-point2 .ensures, ← c .before .within .ensures, c .if3 .left)
 
 pub point-answer-spec : {M : Type 1} → statement M
 point-answer-spec =
@@ -57,6 +57,6 @@ point-answer-spec =
     own-requires
     returns-2
     eval-point-requires-2
-    distance-requires
+    within-requires
     returns-3
     returns-4)
