@@ -11,10 +11,17 @@ use Rattle.fdlibm.proofs.Examples as fdlibm
 use Rattle.solve.proofs.Computing as solve
 use Rattle.boxes.proofs.Computing as boxes
 use Rattle.marching.specs.Leaving.{leavingOf, firstOf, considerOf, lesserOf}
+use Rattle.marching.specs.Tangent.{normalOf, unitCross, tangentOf}
+use Rattle.good.proofs.Evaluated as meeting
+use Rattle.number.specs.Helpers.{numberFit}
+use Rattle.geometry.specs.Point.{pointFit}
+use Rattle.geometry.specs.Tolerance.{defaultTolerance, toleranceFit}
+use Rattle.patch.specs.Patch.{vectorFit, frameFit, numbersFit, sizesFit, windowFit, markFit, uIsAngle, vIsAngle, fitnessOf}
+use Rattle.walk.specs.Trace.{guessFinite, limitsOf, callFitness, walkedOf, traceOf}
 use Rattle.examples.specs.Table.{Table}
 
 pub table : Table
-unfolding evalPoint planeD0 cylinderD0 pointAtOf addVectorOf scaleOf pointOf vectorOf fdlibm.computing solve.computing boxes.computing leavingOf firstOf considerOf lesserOf sqrtOf toBits ofBits
+unfolding evalPoint planeD0 cylinderD0 pointAtOf addVectorOf scaleOf pointOf vectorOf fdlibm.computing solve.computing boxes.computing leavingOf firstOf considerOf lesserOf meeting.computing normalOf unitCross tangentOf fitnessOf numbersFit sizesFit windowFit markFit uIsAngle vIsAngle frameFit vectorFit pointFit numberFit defaultTolerance toleranceFit guessFinite limitsOf callFitness walkedOf traceOf sqrtOf toBits ofBits
 table =
     record {
       row1 = refl;
@@ -25,4 +32,5 @@ table =
       row6 = (refl, λ right. refl);
       row7 = (λ a b. refl, λ a b. refl);
       row8 = (λ p t. refl, λ p t. refl);
+      row9 = (λ p. (refl, refl), λ p. (refl, refl));
     }

@@ -1,12 +1,15 @@
 -- The rows of the paper's charted examples marked (P), each a field whose comment is the paper's sentence. Definitions only.
 use mathlib.Core.Path.{_≡_}
 use mathlib.Core.List.{List, [], _∷_, _++_}
+use Prim.Native.Nat as nat
 use Prim.Native.Nat.{ℕ, _-_}
 use mathlib.Core.Bool.{false}
 use lib.IntN.{negsuc}
+use lib.ListN.{replicate}
 use lib.Ieee.{Float, fin, binary64, toBits}
 use Rattle.number.specs.Operators.{bits}
 use Rattle.geometry.specs.declared.tolerance.Tolerance.{Tolerance}
+use Rattle.geometry.specs.Tolerance.{defaultTolerance}
 use Rattle.analytic.specs.declared.surface.Surface.{Surface}
 use Rattle.patch.specs.declared.patch.Patch.{Patch}
 use Rattle.patch.specs.declared.patch.Parameters.{Parameters}
@@ -26,6 +29,7 @@ use Rattle.cramer.specs.Cramer.{solve2Of}
 use Rattle.solve.specs.Solve.{solve3Of}
 use Rattle.cramer.specs.declared.Solved2.the-variants as solved2
 use Rattle.solve.specs.declared.Solved3.the-variants as solved3
+use Rattle.walk.specs.Trace.{traceOf, refusalOf}
 
 -- the numbers of the rows
 abbrev pub zero : Float
@@ -33,6 +37,9 @@ zero = bits 0
 
 abbrev pub one : Float
 one = bits 0x3ff0_0000_0000_0000
+
+abbrev pub -one : Float
+-one = bits 0xbff0_0000_0000_0000
 
 abbrev pub two : Float
 two = bits 0x4000_0000_0000_0000
@@ -108,6 +115,23 @@ boxAt x y z = record { low = record { x = x; y = y; z = z }; high = record { x =
 abbrev pub unitFrame : Frame3D
 unitFrame = record { origin = pointOf zero zero zero; x = vectorOf one zero zero; y = vectorOf zero one zero; z = vectorOf zero zero one }
 
+-- the unit frame with its origin moved to this z
+abbrev pub frameAt : Float → Frame3D
+frameAt z = record { origin = pointOf zero zero z; x = vectorOf one zero zero; y = vectorOf zero one zero; z = vectorOf zero zero one }
+
+-- "plane, windows -1 to 1, no marks"
+abbrev pub squarePlane : Frame3D → Patch
+squarePlane f = record {
+  surface = Plane f;
+  u = record { low = -one; high = one; turn = false };
+  v = record { low = -one; high = one; turn = false };
+}
+
+-- numbers lent, whatever they are
+abbrev pub lent : ℕ → (ℕ → Float) → List Float
+lent nat.zero p = []
+lent (nat.suc k) p = p k ∷ lent k p
+
 pub record Table : Type 0 where
   -- "Plane, unit frame, (3, -2): point (3, -2, 0)."
   pub row1 : evalPoint (Plane unitFrame) three -two ≡ pointOf three -two zero
@@ -140,3 +164,12 @@ pub record Table : Type 0 where
       → crossingOf (confusion20 t) (fourPoints p) 4 (boxAt (bits 0x3fc3_3333_3333_3333) (bits 0x3f74_7ae1_47ae_147b) zero) ≡ crossed.Yes)
       × ((p : ℕ → ℕ → Float) (t : Float)
       → crossingOf (confusion20 t) (fourPoints p) 4 (boxAt (bits 0x3fc3_3333_3333_3333) (bits 0x3f84_7ae1_47ae_147b) zero) ≡ crossed.No)
+  -- "A and B the same unit-frame plane, windows -1 to 1, no marks, default tolerance, cap 2, 35 numbers lent, guess all 0: 10. B's origin
+  -- moved to z = 1: 9." (and the 35 numbers are positive zero afterwards)
+  pub row9 :
+      ((p : ℕ → Float)
+      → (refusalOf (traceOf (squarePlane unitFrame) (squarePlane unitFrame) defaultTolerance (parameters zero zero zero zero) 2 (lent 35 p) .answer) ≡ 10)
+      × (traceOf (squarePlane unitFrame) (squarePlane unitFrame) defaultTolerance (parameters zero zero zero zero) 2 (lent 35 p) .buffer ≡ replicate 35 zero))
+      × ((p : ℕ → Float)
+      → (refusalOf (traceOf (squarePlane unitFrame) (squarePlane (frameAt one)) defaultTolerance (parameters zero zero zero zero) 2 (lent 35 p) .answer) ≡ 9)
+      × (traceOf (squarePlane unitFrame) (squarePlane (frameAt one)) defaultTolerance (parameters zero zero zero zero) 2 (lent 35 p) .buffer ≡ replicate 35 zero))
