@@ -22,15 +22,16 @@ use Rattle.groups.proofs.Rows.{row-there}
 use Rattle.refusal.specs.declared.Refusal.{Refusal}
 use Rattle.refusal.specs.declared.Refusal.the-variants as refusal
 use Rattle.geometry.specs.declared.tolerance.Tolerance.{Tolerance}
-use Rattle.geometry.specs.Point.{distanceOf}
+use Rattle.geometry.specs.Point.{distanceOf, longestChord}
 use Rattle.geometry.specs.Tolerance.{toleranceFit}
 use Rattle.patch.specs.declared.patch.Patch.{Patch}
 use Rattle.patch.specs.declared.patch.Fitness.{Fitness}
 use Rattle.patch.specs.declared.patch.Fitness.the-variants.{Fit, Unfit}
+use Rattle.patch.specs.Located.{pointA, pointB}
 use Rattle.patch.specs.Patch.{fitnessOf, insideOf}
 use Rattle.certificate.specs.declared.check.Checked.{Checked}
 use Rattle.certificate.specs.declared.check.Checked.the-variants.{Passed, Refused}
-use Rattle.certificate.specs.Passes.{pointAt, parametersAt, freshA, freshB, longestChord, closingChord, PointPasses, ClosedAs, claimed-open, forward, backward, Passes}
+use Rattle.certificate.specs.Passes.{pointAt, parametersAt, closingChord, PointPasses, ClosedAs, claimed-open, forward, backward, Passes}
 use Rattle.certificate.specs.Check.{andThen, asked, finitePoint, samePoint, ownOf, pointAnswer, chordFits, answerAt, stopped, pointTurn, allPassed, pointsAnswer, sameRow, closingSo, claimSo, fitOf, claimAnswer, checkOf}
 use Rattle.certificate.proofs.Bits.{Binary64, point-equal, equal-point, read-fits, row-equal, equal-row, fresh-fits}
 
@@ -84,11 +85,11 @@ module _ (a b : Patch) (tol : Tolerance) (l : List Float) (count closing : ℕ) 
   stages true true true true i e = (refl, refl, refl, refl)
 
   -- A's own point: finite where worked out afresh, and equal to what is stored
-  own-of : (i : ℕ) → Binary64 l → T (insideOf a b (parametersAt l i)) → T (ownOf (pointAt l i) (freshA a (parametersAt l i)))
-      → T (distanceOf (freshA a (parametersAt l i)) (freshB b (parametersAt l i)) ≤? tol .confusion) → PointPasses a b tol l i
+  own-of : (i : ℕ) → Binary64 l → T (insideOf a b (parametersAt l i)) → T (ownOf (pointAt l i) (pointA a (parametersAt l i)))
+      → T (distanceOf (pointA a (parametersAt l i)) (pointB b (parametersAt l i)) ≤? tol .confusion) → PointPasses a b tol l i
   unfolding ownOf finitePoint
   own-of i d n o g =
-      let q = freshA a (parametersAt l i) in
+      let q = pointA a (parametersAt l i) in
       let f = and-l (finitePoint q) (samePoint (pointAt l i) q) o in
       let r = and-r (finite (q .x)) (finite (q .y) && finite (q .z)) f in
       record {
@@ -100,10 +101,10 @@ module _ (a b : Patch) (tol : Tolerance) (l : List Float) (count closing : ℕ) 
         gap = g;
       }
 
-  own-is : (i : ℕ) → PointPasses a b tol l i → T (ownOf (pointAt l i) (freshA a (parametersAt l i)))
+  own-is : (i : ℕ) → PointPasses a b tol l i → T (ownOf (pointAt l i) (pointA a (parametersAt l i)))
   unfolding ownOf finitePoint
   own-is i p =
-      let q = freshA a (parametersAt l i) in
+      let q = pointA a (parametersAt l i) in
       and-i (finitePoint q) (samePoint (pointAt l i) q) (and-i (finite (q .x)) (finite (q .y) && finite (q .z)) (p .finite-x) (and-i (finite (q .y)) (finite (q .z)) (p .finite-y) (p .finite-z)))
       (equal-point (pointAt l i) q (p .own))
 
@@ -112,14 +113,14 @@ module _ (a b : Patch) (tol : Tolerance) (l : List Float) (count closing : ℕ) 
   unfolding answerAt pointAnswer
   point-passes i d e =
       let x = parametersAt l i in
-      let s = stages (insideOf a b x) (ownOf (pointAt l i) (freshA a x)) (distanceOf (freshA a x) (freshB b x) ≤? tol .confusion) (chordFits l count closing i) i e in
+      let s = stages (insideOf a b x) (ownOf (pointAt l i) (pointA a x)) (distanceOf (pointA a x) (pointB b x) ≤? tol .confusion) (chordFits l count closing i) i e in
       (own-of i d (holds (s .0)) (holds (s .1)) (holds (s .2)), chord-tested i (s .3))
 
   passes-point : (i : ℕ) → PointPasses a b tol l i → Chord i → answerAt a b (tol .confusion) l count closing i ≡ Passed
   unfolding answerAt pointAnswer
   passes-point i p k =
       let x = parametersAt l i in
-      rw (is-true (insideOf a b x) (p .inside), is-true (ownOf (pointAt l i) (freshA a x)) (own-is i p), is-true (distanceOf (freshA a x) (freshB b x) ≤? tol .confusion) (p .gap), chord-fits i k)
+      rw (is-true (insideOf a b x) (p .inside), is-true (ownOf (pointAt l i) (pointA a x)) (own-is i p), is-true (distanceOf (pointA a x) (pointB b x) ≤? tol .confusion) (p .gap), chord-fits i k)
 
   -- ---- the search over the points
 

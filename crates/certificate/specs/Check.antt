@@ -16,16 +16,17 @@ use Rattle.refusal.specs.declared.Refusal.the-variants as refusal
 use Rattle.refusal.specs.Refusal as number
 use Rattle.geometry.specs.declared.point.Point3D.{Point3D}
 use Rattle.geometry.specs.declared.tolerance.Tolerance.{Tolerance}
-use Rattle.geometry.specs.Point.{distanceOf}
+use Rattle.geometry.specs.Point.{distanceOf, longestChord}
 use Rattle.geometry.specs.Tolerance.{toleranceFit}
 use Rattle.patch.specs.declared.patch.Patch.{Patch}
 use Rattle.patch.specs.declared.patch.Parameters.{Parameters}
 use Rattle.patch.specs.declared.patch.Fitness.{Fitness}
 use Rattle.patch.specs.declared.patch.Fitness.the-variants.{Fit, Unfit}
+use Rattle.patch.specs.Located.{pointA, pointB}
 use Rattle.patch.specs.Patch.{fitnessOf, insideOf}
 use Rattle.certificate.specs.declared.check.Checked.{Checked}
 use Rattle.certificate.specs.declared.check.Checked.the-variants.{Passed, Refused}
-use Rattle.certificate.specs.Passes.{pointAt, parametersAt, freshA, freshB, longestChord, closingChord}
+use Rattle.certificate.specs.Passes.{pointAt, parametersAt, closingChord}
 
 -- the paper's number for each case (0: passed), and the index that 13 to 16 add
 abbrev pub refusalOf : Checked → ℕ
@@ -61,8 +62,8 @@ ownOf stored fresh = finitePoint fresh && samePoint stored fresh
 unfoldable pub pointAnswer : Patch → Patch → Float → Point3D → Parameters → ℕ → Checked
 pointAnswer a b confusion p x i =
     pick (insideOf a b x)
-    (pick (ownOf p (freshA a x))
-    (pick (distanceOf (freshA a x) (freshB b x) ≤? confusion) Passed (Refused (refusal.Gap i)))
+    (pick (ownOf p (pointA a x))
+    (pick (distanceOf (pointA a x) (pointB b x) ≤? confusion) Passed (Refused (refusal.Gap i)))
     (Refused (refusal.NotOwnPoint i)))
     (Refused (refusal.OutsideWindow i))
 

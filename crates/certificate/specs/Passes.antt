@@ -8,17 +8,17 @@ use lib.ListN.{length}
 use lib.Ieee.{Float}
 use lib.Ieee.Scale.{finite}
 use Rattle.loops.specs.Loop.{pick}
-use Rattle.number.specs.Operators.{bits, _≤?_}
+use Rattle.number.specs.Operators.{_≤?_}
 use Rattle.groups.specs.Groups.{width}
 use Rattle.groups.specs.Row.{rowAt}
 use Rattle.geometry.specs.declared.point.Point3D.{Point3D}
 use Rattle.geometry.specs.declared.tolerance.Tolerance.{Tolerance}
-use Rattle.geometry.specs.Point.{distanceOf}
+use Rattle.geometry.specs.Point.{distanceOf, longestChord}
 use Rattle.geometry.specs.Tolerance.{toleranceFit}
-use Rattle.analytic.specs.Surface.{evalPoint}
 use Rattle.patch.specs.declared.patch.Patch.{Patch}
 use Rattle.patch.specs.declared.patch.Parameters.{Parameters}
 use Rattle.patch.specs.declared.patch.Fitness.the-variants.{Fit}
+use Rattle.patch.specs.Located.{pointA, pointB}
 use Rattle.patch.specs.Patch.{fitnessOf, insideOf}
 
 -- the coordinates of point i, and the parameters beside them
@@ -28,17 +28,6 @@ pointAt l i = record { x = rowAt l i .x; y = rowAt l i .y; z = rowAt l i .z }
 abbrev pub parametersAt : List Float → ℕ → Parameters
 parametersAt l i = record { u1 = rowAt l i .u1; v1 = rowAt l i .v1; u2 = rowAt l i .u2; v2 = rowAt l i .v2 }
 
--- "A's and B's points, both worked out afresh at its parameters"
-abbrev pub freshA : Patch → Parameters → Point3D
-freshA a x = evalPoint (a .surface) (x .u1) (x .v1)
-
-abbrev pub freshB : Patch → Parameters → Point3D
-freshB b x = evalPoint (b .surface) (x .u2) (x .v2)
-
--- 0.2, the number of refusal 16
-abbrev pub longestChord : Float
-longestChord = bits 0x3FC9_9999_9999_999A
-
 -- "The closing chord is the last under code 1, the first under code 2; an open trace has none": chord i comes to point i from the one before
 abbrev pub closingChord : ℕ → ℕ → ℕ → Bool
 closingChord count closing i = pick (eqb closing 1) (eqb i (count - 1)) (pick (eqb closing 2) (eqb i 1) false)
@@ -47,11 +36,11 @@ closingChord count closing i = pick (eqb closing 1) (eqb i (count - 1)) (pick (e
 -- windows that apply, and its computed gap to B is at most the confusion
 pub record PointPasses (a b : Patch) (tol : Tolerance) (l : List Float) (i : ℕ) : Type 0 where
   pub inside : T (insideOf a b (parametersAt l i))
-  pub finite-x : T (finite (freshA a (parametersAt l i) .x))
-  pub finite-y : T (finite (freshA a (parametersAt l i) .y))
-  pub finite-z : T (finite (freshA a (parametersAt l i) .z))
-  pub own : pointAt l i ≡ freshA a (parametersAt l i)
-  pub gap : T (distanceOf (freshA a (parametersAt l i)) (freshB b (parametersAt l i)) ≤? tol .confusion)
+  pub finite-x : T (finite (pointA a (parametersAt l i) .x))
+  pub finite-y : T (finite (pointA a (parametersAt l i) .y))
+  pub finite-z : T (finite (pointA a (parametersAt l i) .z))
+  pub own : pointAt l i ≡ pointA a (parametersAt l i)
+  pub gap : T (distanceOf (pointA a (parametersAt l i)) (pointB b (parametersAt l i)) ≤? tol .confusion)
 
 -- "A closing is so when": an open trace claims nothing
 pub data ClosedAs (l : List Float) (count start closing : ℕ) : Type 0 where

@@ -13,6 +13,7 @@ use lib.Ieee.{Float, nan, inf, fin, binary64, add, sub, le, ofBits, fits}
 use lib.Ieee.Fits.{add-fits, sub-fits, mul-fits, and-l, and-r}
 use lib.Ieee.Scale.{grid, finite}
 use Rattle.number.specs.Operators.{bits, _⊕_, _⊖_, _⊗_, _≤?_}
+use Rattle.number.specs.Helpers.{one}
 use Rattle.number.specs.Units.{unit, mag, neg?, inUnits}
 use Rattle.number.proofs.Values.{Is, is-own, whole, sum-mag, sub-is, apart}
 use Rattle.number.proofs.Rounding.{error-whole}
@@ -25,7 +26,7 @@ use Rattle.sqrt.proofs.AtMost.{squared, sum-over}
 use Rattle.sqrt.proofs.Laws.{UnderRoot, sqrt-le-finite, sqrt-rooted, sqrt-sign, sqrt-fits}
 use Rattle.geometry.specs.declared.point.Point3D.{Point3D}
 use Rattle.geometry.specs.declared.tolerance.Tolerance.{Tolerance}
-use Rattle.geometry.specs.Tolerance.{leastConfusion, one, toleranceFit}
+use Rattle.geometry.specs.Tolerance.{leastConfusion, toleranceFit}
 use Rattle.geometry.specs.Vector.{squareMagnitudeOf, magnitudeOf}
 use Rattle.geometry.specs.Point.{distanceOf, fromOf, squareOf, exactSquare}
 use Rattle.gap.specs.Gap.{ExactlyWithin}

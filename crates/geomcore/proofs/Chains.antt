@@ -1,4 +1,4 @@
--- Lists whose neighbours are related, and lists all of whose elements have a property; a loop whose invariant counts its turns. Assumes nothing.
+-- Lists whose neighbours are related, and lists all of whose elements have a property. Assumes nothing.
 use mathlib.Core.Path.{_≡_, refl, ap, sym, subst, _∙_}
 use mathlib.Core.List.{List, [], _∷_, _++_, reverse, reverseAux, reverse-append}
 use mathlib.Core.Bool.{true}
@@ -6,8 +6,6 @@ use Prim.Native.Nat.{ℕ, zero, suc, _+_, _-_, _≤_, _<_}
 use native.Mathlib.Omega.{arith}
 use lib.Dec.{T}
 use lib.ListN.{length, getD}
-use Rattle.loops.specs.Loop.{Flow, on, out, exits, searched}
-use Rattle.loops.proofs.Loop.{Kept}
 
 -- ---- a property of every element
 
@@ -73,16 +71,3 @@ module _ {A : Type 0} (R : A → A → Type 0) where
 
     pub linked-turned : (x : A) (l : List A) → Linked (l ++ (x ∷ [])) → Linked (x ∷ reverse l)
     linked-turned x l p = subst Linked (reverse-append l (x ∷ [])) (all-round (l ++ (x ∷ [])) p)
-
--- ---- what every turn keeps holds at the end, the turns counted: P i of the state before turn i, Q of each answer
-
-pub searched-keeps-at : {S R : Type 0} (f : ℕ → S → Flow S R) (end : S → R) (P : ℕ → S → Type 0) (Q : R → Type 0) (a b : ℕ)
-    → ((i : ℕ) (s : S) → i < b → P i s → Kept (P (i + 1)) Q (f i s)) → ((s : S) → P b s → Q (end s)) → a ≤ b → (s : S) → P a s → Q (searched f end a b (on s))
-unfolding exits
-searched-keeps-at {S} {R} f end P Q a b step last h s p = go (b - a) a (omega arith) (on s) p
-  where
-    go : (k i : ℕ) → i + k ≡ b → (w : Flow S R) → Kept (P i) Q w → Q (exits f end k i w)
-    go zero i e (on s) p = last s (subst (λ (j : ℕ). P j s) (let f : i ≡ b = omega arith in f) p)
-    go zero i e (out r) p = p
-    go (suc k) i e (on s) p = go k (i + 1) (omega arith) (f i s) (step i s (omega arith) p)
-    go (suc k) i e (out r) p = p

@@ -13,21 +13,20 @@ use Rattle.number.specs.Operators.{_≤?_}
 use Rattle.geometry.specs.declared.point.Point3D.{Point3D}
 use Rattle.geometry.specs.declared.vector.Vector3D.{Vector3D}
 use Rattle.geometry.specs.declared.tolerance.Tolerance.{Tolerance}
-use Rattle.geometry.specs.Point.{distanceOf}
+use Rattle.geometry.specs.Point.{distanceOf, longestChord}
 use Rattle.gap.proofs.Gap.{distance-swap}
 use Rattle.patch.specs.declared.patch.Patch.{Patch}
 use Rattle.patch.specs.declared.patch.Parameters.{Parameters}
-use Rattle.meeting.specs.Step.{pointA}
+use Rattle.patch.specs.Located.{pointA}
 use Rattle.good.specs.Good.{Good}
 use Rattle.stride.specs.declared.attempt.Walker.{Walker}
-use Rattle.stride.specs.Attempt.{longestChord}
 use Rattle.walk.specs.Step.{stepOf}
 use Rattle.walk.specs.Half.{Walked, Halfway, firstWalker, withoutLast, afterStep, halfStep, halfSpent, halfOf}
 use Rattle.walk.specs.Closing.{firstStride}
 use Rattle.walk.specs.declared.step.Stepped.{Stepped}
 use Rattle.walk.specs.declared.step.Stepped.the-variants.{Onward, Closed, Edge, Ended}
 use Rattle.walk.proofs.Steps.{Fine, SteppedFine, step-fine}
-use Rattle.geomcore.proofs.Chains.{All, Linked, firstOr, linked-front, linked-rest, searched-keeps-at}
+use Rattle.geomcore.proofs.Chains.{All, Linked, firstOr, linked-front, linked-rest}
 
 -- the computed chord from z to y is at most 0.2
 abbrev pub Near : Patch → Parameters → Parameters → Type 0

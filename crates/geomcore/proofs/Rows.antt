@@ -15,15 +15,15 @@ use Rattle.groups.specs.Row.{numbersOf, rowAt}
 use Rattle.geometry.specs.declared.point.Point3D.{Point3D}
 use Rattle.geometry.specs.declared.tolerance.Tolerance.{Tolerance}
 use Rattle.geometry.specs.Tolerance.{toleranceFit}
-use Rattle.geometry.specs.Point.{distanceOf}
+use Rattle.geometry.specs.Point.{distanceOf, longestChord}
 use Rattle.patch.specs.declared.patch.Patch.{Patch}
 use Rattle.patch.specs.declared.patch.Parameters.{Parameters}
 use Rattle.patch.specs.declared.patch.Fitness.the-variants.{Fit}
 use Rattle.patch.specs.Patch.{fitnessOf, insideOf}
-use Rattle.meeting.specs.Step.{pointA}
+use Rattle.patch.specs.Located.{pointA, pointB}
 use Rattle.good.specs.Good.{Good}
 use Rattle.good.proofs.Good.{good-finite}
-use Rattle.certificate.specs.Passes.{pointAt, parametersAt, freshA, freshB, longestChord, closingChord, PointPasses, ClosedAs, claimed-open, forward, backward, Passes}
+use Rattle.certificate.specs.Passes.{pointAt, parametersAt, closingChord, PointPasses, ClosedAs, claimed-open, forward, backward, Passes}
 use Rattle.walk.specs.Lent.{ownRow, rowsOf}
 use Rattle.walk.proofs.Halves.{rows-length}
 use Rattle.geomcore.proofs.Chains.{All, all-at}
@@ -63,11 +63,11 @@ parametersIn r = record { u1 = r .u1; v1 = r .v1; u2 = r .u2; v2 = r .v2 }
 
 record RowPasses (a b : Patch) (confusion : Float) (r : Row) : Type 0 where
   inside : T (insideOf a b (parametersIn r))
-  finite-x : T (finite (freshA a (parametersIn r) .x))
-  finite-y : T (finite (freshA a (parametersIn r) .y))
-  finite-z : T (finite (freshA a (parametersIn r) .z))
-  own : pointIn r ≡ freshA a (parametersIn r)
-  gap : T (distanceOf (freshA a (parametersIn r)) (freshB b (parametersIn r)) ≤? confusion)
+  finite-x : T (finite (pointA a (parametersIn r) .x))
+  finite-y : T (finite (pointA a (parametersIn r) .y))
+  finite-z : T (finite (pointA a (parametersIn r) .z))
+  own : pointIn r ≡ pointA a (parametersIn r)
+  gap : T (distanceOf (pointA a (parametersIn r)) (pointB b (parametersIn r)) ≤? confusion)
 
 module _ (a b : Patch) (tol : Tolerance) (fc : T (fits binary64 (tol .confusion))) (fit : T (toleranceFit tol)) where
   good-row : (y : Parameters) → Good a b (tol .confusion) y → RowPasses a b (tol .confusion) (ownRow a y)

@@ -3,7 +3,7 @@ use Prim.Native.Nat.{ℕ, _+_, _*_}
 use mathlib.Core.Bool.{Bool, _&&_}
 use lib.IntN.{natAbs, _-ℤ_}
 use lib.Ieee.{Float}
-use Rattle.number.specs.Operators.{_⊕_, _⊖_, _⊗_}
+use Rattle.number.specs.Operators.{bits, _⊕_, _⊖_, _⊗_}
 use Rattle.number.specs.Helpers.{numberFit}
 use Rattle.number.specs.Units.{inUnits}
 use Rattle.sqrt.specs.Sqrt.{sqrtOf}
@@ -17,6 +17,10 @@ pointOf x y z = record { x = x; y = y; z = z }
 -- distance: "A gap or chord is the square root of the sum of the three squared differences"
 unfoldable pub distanceOf : Point3D → Point3D → Float
 distanceOf p q = sqrtOf ((q .x ⊖ p .x) ⊗ (q .x ⊖ p .x) ⊕ (q .y ⊖ p .y) ⊗ (q .y ⊖ p .y) ⊕ (q .z ⊖ p .z) ⊗ (q .z ⊖ p .z))
+
+-- 0.2, the longest chord that the walk keeps and that the check passes (16)
+abbrev pub longestChord : Float
+longestChord = bits 0x3FC9_9999_9999_999A
 
 -- Point3D + Vector3D of point.rs
 unfoldable pub addVectorOf : Point3D → Vector3D → Point3D

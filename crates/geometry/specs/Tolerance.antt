@@ -2,6 +2,7 @@
 use mathlib.Core.Bool.{Bool, _&&_}
 use lib.Ieee.{Float}
 use Rattle.number.specs.Operators.{bits, _≤?_}
+use Rattle.number.specs.Helpers.{one}
 use Rattle.geometry.specs.declared.tolerance.Tolerance.{Tolerance}
 
 -- "the constant DEFAULT: confusion 1e-7, angular 1e-12, parametric 1e-9"
@@ -19,10 +20,6 @@ leastConfusion = bits 0x3D70_0000_0000_0000
 -- "0", the low end of angular
 abbrev pub zero : Float
 zero = bits 0
-
--- "1", the high end of both
-abbrev pub one : Float
-one = bits 0x3FF0_0000_0000_0000
 
 -- 5: "confusion not within 2^-40 to 1, or angular not within 0 to 1 (NaN fails both). The parametric tolerance isn't read."
 unfoldable pub toleranceFit : Tolerance → Bool

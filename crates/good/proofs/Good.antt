@@ -11,7 +11,7 @@ use lib.Ieee.Scale.{finite}
 use Rattle.loops.specs.Loop.{pick, Flow, on, out}
 use Rattle.loops.proofs.Loop.{Kept, searched-keeps}
 use Rattle.number.specs.Operators.{_⊗_, _<?_, _≤?_}
-use Rattle.number.specs.Helpers.{half, absOf}
+use Rattle.number.specs.Helpers.{one, half, absOf}
 use Rattle.number.specs.Units.{mag, neg?}
 use Rattle.number.proofs.Values.{Is, whole}
 use Rattle.number.proofs.Order.{le-self, le-numbers, le-through}
@@ -19,7 +19,7 @@ use Rattle.number.proofs.Scaling.{tenth-le}
 use Rattle.geometry.specs.declared.point.Point3D.{Point3D}
 use Rattle.geometry.specs.declared.vector.Vector3D.{Vector3D}
 use Rattle.geometry.specs.declared.tolerance.Tolerance.{Tolerance}
-use Rattle.geometry.specs.Tolerance.{leastConfusion, one, toleranceFit}
+use Rattle.geometry.specs.Tolerance.{leastConfusion, toleranceFit}
 use Rattle.geometry.specs.Vector.{magnitudeOf}
 use Rattle.geometry.specs.Point.{fromOf, distanceOf}
 use Rattle.gap.proofs.Gap.{magnitude-is-gap, fit-tolerance, finite-between, large, gap-finite, PointFinite}
@@ -38,7 +38,8 @@ use Rattle.meeting.specs.declared.newton.Trial.the-variants as trial
 use Rattle.meeting.specs.declared.newton.Round.{Round}
 use Rattle.meeting.specs.declared.newton.Round.the-variants as round
 use Rattle.meeting.specs.Parameters.{parameterOf, withParameter}
-use Rattle.meeting.specs.Step.{pointA, pointB, residualOf, newtonStep, allShifted, shiftedOf}
+use Rattle.patch.specs.Located.{pointA, pointB}
+use Rattle.meeting.specs.Step.{residualOf, newtonStep, allShifted, shiftedOf}
 use Rattle.meeting.specs.Newton.{tenth, nearOf, trialStep, noTrial, trialsOf, lastTest, afterTrials, afterStep, roundOf, goingOn, roundStep, newtonOf, meetOf, meetInPlaneOf, landOf}
 use Rattle.good.specs.Good.{Good, windowAt}
 

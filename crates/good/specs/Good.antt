@@ -9,7 +9,7 @@ use Rattle.patch.specs.declared.patch.Parameters.{Parameters}
 use Rattle.patch.specs.declared.patch.Window.{Window}
 use Rattle.patch.specs.Patch.{insideOf}
 use Rattle.meeting.specs.Parameters.{ofFour}
-use Rattle.meeting.specs.Step.{pointA, pointB}
+use Rattle.patch.specs.Located.{pointA, pointB}
 
 -- every parameter inside its window where that has no turn mark, and the computed gap of A's and B's points at most confusion
 pub record Good (a b : Patch) (confusion : Float) (x : Parameters) : Type 0 where

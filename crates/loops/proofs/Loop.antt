@@ -1,5 +1,5 @@
 -- The laws of loops: what a loop's proof cites after a turn and after the last one. Assumes nothing.
-use mathlib.Core.Path.{_≡_, refl, ap, sym, _∙_}
+use mathlib.Core.Path.{_≡_, refl, ap, sym, subst, _∙_}
 use Prim.Native.Nat.{ℕ, zero, suc, _+_, _-_, _≤_, _<_}
 use native.Mathlib.Omega.{arith}
 use Rattle.loops.specs.Loop.{turns, ranged, Flow, on, out, exits, searched}
@@ -73,3 +73,15 @@ searched-keeps {S} {R} f end P Q step last a b s p = go (b - a) a (on s) p
     go zero i (out r) h = h
     go (suc k) i (on s) h = go k (i + 1) (f i s) (step i s h)
     go (suc k) i (out r) h = h
+
+-- The same with the turns counted: P i of the state before turn i, Q of each answer.
+pub searched-keeps-at : {S R : Type 0} (f : ℕ → S → Flow S R) (end : S → R) (P : ℕ → S → Type 0) (Q : R → Type 0) (a b : ℕ)
+    → ((i : ℕ) (s : S) → i < b → P i s → Kept (P (i + 1)) Q (f i s)) → ((s : S) → P b s → Q (end s)) → a ≤ b → (s : S) → P a s → Q (searched f end a b (on s))
+unfolding exits
+searched-keeps-at {S} {R} f end P Q a b step last h s p = go (b - a) a (omega arith) (on s) p
+  where
+    go : (k i : ℕ) → i + k ≡ b → (w : Flow S R) → Kept (P i) Q w → Q (exits f end k i w)
+    go zero i e (on s) p = last s (subst (λ (j : ℕ). P j s) (let f : i ≡ b = omega arith in f) p)
+    go zero i e (out r) p = p
+    go (suc k) i e (on s) p = go k (i + 1) (omega arith) (f i s) (step i s (omega arith) p)
+    go (suc k) i e (out r) p = p

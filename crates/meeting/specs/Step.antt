@@ -12,7 +12,8 @@ use Rattle.geometry.specs.Vector.{vectorOf, dotOf, negOf}
 use Rattle.geometry.specs.Point.{fromOf}
 use Rattle.patch.specs.declared.patch.Patch.{Patch}
 use Rattle.patch.specs.declared.patch.Parameters.{Parameters}
-use Rattle.analytic.specs.Surface.{evalPoint, evalD1}
+use Rattle.analytic.specs.Surface.{evalD1}
+use Rattle.patch.specs.Located.{pointA, pointB}
 use Rattle.solve.specs.declared.Solution3.{Solution3}
 use Rattle.solve.specs.declared.Solved3.{Solved3}
 use Rattle.solve.specs.declared.Solved4.{Solved4}
@@ -33,14 +34,6 @@ unfoldable pub offsetOf : Target → Point3D → Float
 offsetOf Free p = bits 0
 offsetOf (Plane origin normal) p = dotOf (fromOf p origin) normal
 offsetOf (Pin k) p = bits 0
-
--- A's point at x
-abbrev pub pointA : Patch → Parameters → Point3D
-pointA a x = evalPoint (a .surface) (x .u1) (x .v1)
-
--- B's point at x
-abbrev pub pointB : Patch → Parameters → Point3D
-pointB b x = evalPoint (b .surface) (x .u2) (x .v2)
 
 -- the merit f . f + r * r
 abbrev pub meritOf : Vector3D → Float → Float

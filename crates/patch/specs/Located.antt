@@ -1,17 +1,26 @@
--- The public point. Definitions only.
+-- The public point, and the points of two surfaces at four parameters. Definitions only.
 use mathlib.Core.Bool.{Bool}
 use lib.Ieee.{Float}
 use lib.Ieee.Scale.{finite}
 use Rattle.loops.specs.Loop.{pick}
 use Rattle.refusal.specs.declared.Refusal.{Refusal}
+use Rattle.geometry.specs.declared.point.Point3D.{Point3D}
 use Rattle.refusal.specs.declared.Refusal.the-variants.{Parameter}
 use Rattle.patch.specs.declared.patch.Patch.{Patch}
+use Rattle.patch.specs.declared.patch.Parameters.{Parameters}
 use Rattle.patch.specs.declared.patch.Fitness.{Fitness}
 use Rattle.patch.specs.declared.patch.Fitness.the-variants.{Fit, Unfit}
 use Rattle.patch.specs.declared.point.Located.{Located}
 use Rattle.patch.specs.declared.point.Located.the-variants.{At, Refused}
 use Rattle.analytic.specs.Surface.{evalPoint}
 use Rattle.patch.specs.Patch.{fitnessOf}
+
+-- A's and B's points at the parameters: the walk's, and the check's "both worked out afresh at its parameters"
+abbrev pub pointA : Patch → Parameters → Point3D
+pointA a x = evalPoint (a .surface) (x .u1) (x .v1)
+
+abbrev pub pointB : Patch → Parameters → Point3D
+pointB b x = evalPoint (b .surface) (x .u2) (x .v2)
 
 -- "Point: 1 to 4, then 6": 6 is "a guess or parameter that is not finite"
 abbrev pub afterFitness : Patch → Float → Float → Fitness → Located

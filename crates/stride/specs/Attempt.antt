@@ -10,7 +10,7 @@ use Rattle.geometry.specs.declared.vector.Vector3D.{Vector3D}
 use Rattle.geometry.specs.declared.point.Point3D.{Point3D}
 use Rattle.geometry.specs.declared.tolerance.Tolerance.{Tolerance}
 use Rattle.geometry.specs.Vector.{dotOf, crossOf, magnitudeOf, scaleOf}
-use Rattle.geometry.specs.Point.{distanceOf, addVectorOf, fromOf}
+use Rattle.geometry.specs.Point.{distanceOf, longestChord, addVectorOf, fromOf}
 use Rattle.patch.specs.declared.patch.Patch.{Patch}
 use Rattle.patch.specs.declared.patch.Parameters.{Parameters}
 use Rattle.meeting.specs.declared.newton.Met.{Met}
@@ -21,18 +21,15 @@ use Rattle.marching.specs.declared.leaving.Exit.{Exit}
 use Rattle.marching.specs.declared.leaving.Exit.the-variants as exit
 use Rattle.marching.specs.Tangent.{tangentOf, predictOf}
 use Rattle.marching.specs.Leaving.{leavingOf}
-use Rattle.meeting.specs.Step.{pointA}
+use Rattle.patch.specs.Located.{pointA}
 use Rattle.meeting.specs.Newton.{meetInPlaneOf, landOf}
 use Rattle.stride.specs.declared.attempt.Walker.{Walker}
 use Rattle.stride.specs.declared.attempt.Tried.{Tried}
 use Rattle.stride.specs.declared.attempt.Tried.the-variants.{Inner, Edge, Nothing}
 
--- the numbers of the rule: 2, 0.2, 0.05, 4, 32 and 1000
+-- the numbers of the rule: 2, 0.05, 4, 32 and 1000
 abbrev pub two : Float
 two = bits 0x4000_0000_0000_0000
-
-abbrev pub longestChord : Float
-longestChord = bits 0x3FC9_9999_9999_999A
 
 abbrev pub freeTurn : Float
 freeTurn = bits 0x3FA9_9999_9999_999A

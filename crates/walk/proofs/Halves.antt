@@ -16,7 +16,7 @@ use Rattle.geometry.specs.declared.vector.Vector3D.{Vector3D}
 use Rattle.geometry.specs.declared.tolerance.Tolerance.{Tolerance}
 use Rattle.patch.specs.declared.patch.Patch.{Patch}
 use Rattle.patch.specs.declared.patch.Parameters.{Parameters}
-use Rattle.meeting.specs.Step.{pointA}
+use Rattle.patch.specs.Located.{pointA}
 use Rattle.stride.specs.declared.attempt.Walker.{Walker}
 use Rattle.walk.specs.declared.step.Stepped.{Stepped}
 use Rattle.walk.specs.declared.step.Stepped.the-variants.{Onward, Closed, Edge, Ended}

@@ -16,7 +16,7 @@ use Rattle.geometry.specs.declared.vector.Vector3D.{Vector3D}
 use Rattle.geometry.specs.declared.tolerance.Tolerance.{Tolerance}
 use Rattle.geometry.specs.Tolerance.{toleranceFit}
 use Rattle.geometry.specs.Vector.{dotOf, scaleOf}
-use Rattle.geometry.specs.Point.{distanceOf, fromOf, addVectorOf}
+use Rattle.geometry.specs.Point.{distanceOf, longestChord, fromOf, addVectorOf}
 use Rattle.patch.specs.declared.patch.Patch.{Patch}
 use Rattle.patch.specs.declared.patch.Parameters.{Parameters}
 use Rattle.meeting.specs.declared.newton.Met.{Met}
@@ -27,7 +27,7 @@ use Rattle.marching.specs.declared.leaving.Exit.{Exit}
 use Rattle.marching.specs.declared.leaving.Exit.the-variants as exit
 use Rattle.marching.specs.Tangent.{tangentOf}
 use Rattle.marching.specs.Leaving.{leavingOf}
-use Rattle.meeting.specs.Step.{pointA}
+use Rattle.patch.specs.Located.{pointA}
 use Rattle.meeting.specs.Newton.{meetInPlaneOf, landOf}
 use Rattle.good.specs.Good.{Good}
 use Rattle.good.proofs.Good.{meet-in-plane-good, land-good}
@@ -36,7 +36,7 @@ use Rattle.stride.specs.declared.attempt.Tried.{Tried}
 use Rattle.stride.specs.declared.attempt.Tried.the-variants as tried
 use Rattle.stride.specs.declared.shorten.Stride.{Stride}
 use Rattle.stride.specs.declared.shorten.Stride.the-variants as stride
-use Rattle.stride.specs.Attempt.{two, longestChord, keptOf, onEdge, afterLanding, landedOf, turnOf, smoothOf, acceptedOf, onwardAt, onwardOf, afterTangent, afterMeeting, innerOf, towards, predicted, attemptOf}
+use Rattle.stride.specs.Attempt.{two, keptOf, onEdge, afterLanding, landedOf, turnOf, smoothOf, acceptedOf, onwardAt, onwardOf, afterTangent, afterMeeting, innerOf, towards, predicted, attemptOf}
 use Rattle.stride.specs.Shorten.{longestStride, strideStep, afterAttempt, noStride, halvingOf, strideOf}
 use Rattle.walk.specs.Closing.{closesOf, nextStride}
 use Rattle.walk.specs.Step.{edgeStep, cameRound, innerStep, nearStart, afterStride, stepOf}

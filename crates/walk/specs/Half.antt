@@ -12,7 +12,7 @@ use Rattle.geometry.specs.declared.tolerance.Tolerance.{Tolerance}
 use Rattle.geometry.specs.Vector.{scaleOf}
 use Rattle.patch.specs.declared.patch.Patch.{Patch}
 use Rattle.patch.specs.declared.patch.Parameters.{Parameters}
-use Rattle.meeting.specs.Step.{pointA}
+use Rattle.patch.specs.Located.{pointA}
 use Rattle.stride.specs.declared.attempt.Walker.{Walker}
 use Rattle.walk.specs.Closing.{firstStride}
 use Rattle.walk.specs.Step.{stepOf}

@@ -16,7 +16,7 @@ ghost use Prim.Native.Nat.{_*_, _-_, _≤_};
 ghost use lib.ListN.{length, take};
 ghost use Rattle.loops.specs.Loop.{pick};
 ghost use Rattle.groups.specs.Groups.{width};
-ghost use Rattle.meeting.specs.Step.{pointA};
+ghost use Rattle.patch.specs.Located.{pointA};
 ghost use Rattle.walk.specs.Lent.{rowsOf};
 ghost use Rattle.walk.specs.Half.{firstWalker, halfOf, inOrder};
 

@@ -17,7 +17,7 @@ ghost use mathlib.Core.Path.{_≡_};
 ghost use Prim.Native.Nat.{_+_, _*_, _≤_};
 ghost use lib.ListN.{length};
 ghost use Rattle.groups.specs.Groups.{width};
-ghost use Rattle.meeting.specs.Step.{pointA};
+ghost use Rattle.patch.specs.Located.{pointA};
 ghost use Rattle.walk.specs.Lent.{joinedOf};
 ghost use Rattle.walk.specs.Line.{lineOf};
 ghost use Rattle.walk.specs.Trace.{room, finishedOf, settled};
