@@ -18,14 +18,14 @@ use Rattle.patch.specs.declared.patch.Patch.{Patch}
 use Rattle.patch.specs.declared.patch.Parameters.{Parameters}
 use Rattle.patch.specs.Located.{pointA}
 use Rattle.stride.specs.declared.attempt.Walker.{Walker}
-use Rattle.walk.specs.declared.step.Stepped.{Stepped}
-use Rattle.walk.specs.declared.step.Stepped.the-variants.{Onward, Closed, Edge, Ended}
+use Rattle.step.specs.declared.step.Stepped.{Stepped}
+use Rattle.step.specs.declared.step.Stepped.the-variants.{Onward, Closed, Edge, Ended}
 use Rattle.walk.specs.Lent.{placed, rowFor, ownRow, rowsOf}
-use Rattle.walk.specs.Step.{stepOf}
-use Rattle.walk.specs.Closing.{firstStride}
+use Rattle.step.specs.Step.{stepOf}
+use Rattle.step.specs.Closing.{firstStride}
 use Rattle.walk.specs.Half.{Walked, Halfway, firstWalker, withoutLast, afterStep, halfStep, halfSpent, halfFrom, halfOf}
 use Rattle.walk.proofs.Lists.{take-over, length-over}
-use Rattle.walk.proofs.Steps.{SteppedFine, step-fine}
+use Rattle.step.proofs.Steps.{SteppedFine, step-fine}
 
 -- ---- rows
 

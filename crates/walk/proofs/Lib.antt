@@ -2,5 +2,4 @@ pub mod Calls
 pub mod Halves
 pub mod Lines
 pub mod Lists
-pub mod Steps
 pub mod Turning

@@ -14,10 +14,10 @@ use Rattle.patch.specs.declared.patch.Patch.{Patch}
 use Rattle.patch.specs.declared.patch.Parameters.{Parameters}
 use Rattle.patch.specs.Located.{pointA}
 use Rattle.stride.specs.declared.attempt.Walker.{Walker}
-use Rattle.walk.specs.Closing.{firstStride}
-use Rattle.walk.specs.Step.{stepOf}
-use Rattle.walk.specs.declared.step.Stepped.{Stepped}
-use Rattle.walk.specs.declared.step.Stepped.the-variants.{Onward, Closed, Edge, Ended}
+use Rattle.step.specs.Closing.{firstStride}
+use Rattle.step.specs.Step.{stepOf}
+use Rattle.step.specs.declared.step.Stepped.{Stepped}
+use Rattle.step.specs.declared.step.Stepped.the-variants.{Onward, Closed, Edge, Ended}
 
 -- a half: the parameters of its points, the last one first, and whether it ended on the start
 pub record Walked : Type 0 where

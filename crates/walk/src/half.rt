@@ -1,14 +1,14 @@
 // One half of the walk.
-use crate::closing::first_stride;
 use crate::lent::put;
 use crate::lent::row_for;
-use crate::step::Stepped;
-use crate::step::step;
 use geometry::Point3D;
 use geometry::Tolerance;
 use geometry::Vector3D;
 use patch::Parameters;
 use patch::Patch;
+use step::Stepped;
+use step::first_stride;
+use step::step::step;
 use stride::Walker;
 ghost use mathlib.Core.Path.{_≡_};
 ghost use mathlib.Core.List.{List};

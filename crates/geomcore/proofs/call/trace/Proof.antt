@@ -1,7 +1,7 @@
 -- `geomcore::call::trace` meets its contract; that its lines pass is `traced-passes`. Assumes nothing.
 use borrow.Author.Needs.{needs}
 use denote.Ref.{now}
-use Rattle.geomcore.proofs.Passing.{traced-passes}
+use Rattle.passing.proofs.Passing.{traced-passes}
 use Rattle.geomcore.proofs.call.trace.Statement.{statement}
 use Rattle.geomcore.proofs.call.trace.Tie as tie
 

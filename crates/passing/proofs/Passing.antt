@@ -1,0 +1,119 @@
+-- STATEMENT 4: whatever `trace` is given, if it answers a trace, that trace passes. Assumes nothing.
+use mathlib.Core.Path.{_≡_, refl, ap, sym, subst, _∙_}
+use mathlib.Core.Bool.{Bool, true, false}
+use mathlib.Core.List.{List, [], _∷_, _++_, append-assoc}
+use Prim.Native.Nat.{ℕ, _+_, _-_, _*_, _≤_, _<_}
+use native.Mathlib.Omega.{arith}
+use borrow.Author.Tests.{leb-true}
+use lib.Dec.{T, leb}
+use lib.Ieee.{Float, binary64, fits}
+use lib.ListN.{length, drop, replicate}
+use Rattle.loops.specs.Loop.{pick}
+use Rattle.groups.specs.Groups.{width, holdsOf}
+use Rattle.groups.specs.Row.{zero}
+use Rattle.refusal.specs.declared.Refusal.{Refusal}
+use Rattle.refusal.specs.declared.Refusal.the-variants as refusal
+use Rattle.geometry.specs.declared.vector.Vector3D.{Vector3D}
+use Rattle.geometry.specs.declared.tolerance.Tolerance.{Tolerance}
+use Rattle.geometry.specs.Tolerance.{toleranceFit}
+use Rattle.patch.specs.declared.patch.Patch.{Patch}
+use Rattle.patch.specs.declared.patch.Parameters.{Parameters}
+use Rattle.patch.specs.declared.patch.Fitness.{Fitness}
+use Rattle.patch.specs.declared.patch.Fitness.the-variants.{Fit, Unfit}
+use Rattle.patch.specs.Patch.{fitnessOf}
+use Rattle.meeting.specs.declared.newton.Met.{Met}
+use Rattle.meeting.specs.declared.newton.Met.the-variants as met
+use Rattle.meeting.specs.Newton.{meetOf}
+use Rattle.marching.specs.declared.tangent.Direction.{Direction}
+use Rattle.marching.specs.declared.tangent.Direction.the-variants as direction
+use Rattle.marching.specs.Tangent.{tangentOf}
+use Rattle.good.specs.Good.{Good}
+use Rattle.good.proofs.Good.{meet-good}
+use Rattle.certificate.specs.declared.check.Checked.the-variants.{Passed}
+use Rattle.certificate.specs.Passes.{Passes}
+use Rattle.certificate.specs.Check.{checkOf}
+use Rattle.certificate.proofs.Passed.{passes-checked}
+use Rattle.walk.specs.Lent.{rowsOf}
+use Rattle.walk.specs.Line.{lineOf}
+use Rattle.walk.specs.Line as line
+use Rattle.walk.specs.Trace.{Outcome, countOf, startOf, closingOf, guessFinite, limitsOf, afterPatch, callFitness, room, settled, afterDirection, afterSeed, walkedOf, afterCall, traceOf}
+use Rattle.walk.specs.declared.answer.Traced.{Traced}
+use Rattle.walk.specs.declared.answer.Traced.the-variants.{Line, Refused}
+use Rattle.walk.proofs.Calls.{call-fit}
+use Rattle.passing.proofs.Lines.{LineFine, line-fine}
+use Rattle.passing.proofs.Rows.{line-passes}
+
+-- ---- no refusal is a line
+
+abbrev sign : Traced → ℕ
+sign (Line count start closing) = 1
+sign (Refused r) = 0
+
+unlined : {r : Refusal} {count start closing : ℕ} → Refused r ≡ Line count start closing → ⊥
+unlined e = let z : _≡_ {A = ℕ} 0 1 = ap sign e in omega arith
+
+-- ---- a fit call
+
+module _ (a b : Patch) (tol : Tolerance) (fc : T (fits binary64 (tol .confusion))) (fa : fitnessOf a ≡ Fit) (fb : fitnessOf b ≡ Fit) (fit : T (toleranceFit tol))
+    (n : ℕ) (cap : n ≤ 2000) (rest : List Float) (count start closing : ℕ) where
+  -- what holds of an outcome, `rest` being what lies past the room
+  abbrev Passing : Outcome → Type 0
+  Passing o = o .answer ≡ Line count start closing → Passes a b tol (o .buffer ++ rest) count start closing
+
+  line-passing : (x : Parameters) (points : List Parameters) (s c : ℕ) → LineFine a b (tol .confusion) x n points s c → (zeros : List Float) → 4 ≤ length points
+      → Line (length points) s c ≡ Line count start closing → Passes a b tol ((rowsOf a points ++ zeros) ++ rest) count start closing
+  line-passing x points s c v zeros h e =
+      subst (λ (k : ℕ). Passes a b tol ((rowsOf a points ++ zeros) ++ rest) k start closing) (ap countOf e)
+      (subst (λ (k : ℕ). Passes a b tol ((rowsOf a points ++ zeros) ++ rest) (length points) k closing) (ap startOf e)
+      (subst (λ (k : ℕ). Passes a b tol ((rowsOf a points ++ zeros) ++ rest) (length points) s k) (ap closingOf e)
+      (subst (λ (k : List Float). Passes a b tol k (length points) s c) (sym (append-assoc (rowsOf a points) zeros rest))
+      (line-passes a b tol fc fit x n points s c v (zeros ++ rest) fa fb h cap))))
+
+  settled-passing : (x : Parameters) (m : line.Line) → LineFine a b (tol .confusion) x n (m .points) (m .start) (m .closing) → Passing (settled a n m)
+  unfolding settled
+  settled-passing x m v = go (leb 4 (length (m .points))) refl
+    where
+      go : (t : Bool) → leb 4 (length (m .points)) ≡ t
+          → Passing (pick t (record { answer = Line (length (m .points)) (m .start) (m .closing); buffer = rowsOf a (m .points) ++ replicate (room n - width * length (m .points)) zero })
+          (record { answer = Refused refusal.TooShort; buffer = replicate (room n) zero }))
+      go true e q = line-passing x (m .points) (m .start) (m .closing) v (replicate (room n - width * length (m .points)) zero) (leb-true 4 (length (m .points)) e) q
+      go false e q = absurd (unlined q)
+
+  direction-passing : (x : Parameters) → Good a b (tol .confusion) x → (d : Direction) → Passing (afterDirection a b tol n x d)
+  direction-passing x g (direction.Along t) = settled-passing x (lineOf a b tol x t n) (line-fine a b tol fc x g t n)
+  direction-passing x g direction.Missing = λ q. absurd (unlined q)
+
+  seed-passing : (guess : Parameters) (m : Met) → meetOf a b guess tol ≡ m → Passing (afterSeed a b tol n m)
+  seed-passing guess (met.At x) e = direction-passing x (meet-good a b tol fc fit guess x e) (tangentOf a b x tol)
+  seed-passing guess met.Nothing e = λ q. absurd (unlined q)
+
+  walked-passing : (guess : Parameters) → Passing (walkedOf a b tol guess n)
+  unfolding walkedOf
+  walked-passing guess = seed-passing guess (meetOf a b guess tol) refl
+
+-- ---- the call
+
+-- STATEMENT 4: whatever surfaces, tolerance, guess, step cap and buffer `trace` is given, if it answers a line then the buffer after the call passes
+-- with the count, the start and the closing it answered. The confusion is binary64, as every f64 that is handed over is.
+pub trace-passes : (a b : Patch) (tol : Tolerance) (guess : Parameters) (n : ℕ) (l : List Float) → T (fits binary64 (tol .confusion)) → (count start closing : ℕ)
+    → traceOf a b tol guess n l .answer ≡ Line count start closing → Passes a b tol (traceOf a b tol guess n l .buffer) count start closing
+unfolding traceOf
+trace-passes a b tol guess n l fc count start closing e = go (callFitness a b tol guess n l) refl e
+  where
+    go : (f : Fitness) → callFitness a b tol guess n l ≡ f → afterCall a b tol guess n l f .answer ≡ Line count start closing → Passes a b tol (afterCall a b tol guess n l f .buffer) count start closing
+    go (Unfit r) k q = absurd (unlined q)
+    go Fit k q =
+        let s = call-fit a b tol guess n l k in
+        walked-passing a b tol fc (s .0) (s .1) (s .2) n (s .3) (drop (room n) l) count start closing guess q
+
+-- as a caller of `trace` has it, from the two equations of its contract
+module _ (a b : Patch) (tol : Tolerance) (guess : Parameters) (n : ℕ) (l : List Float) (fc : T (fits binary64 (tol .confusion))) {r : Traced} {after : List Float}
+    (answer : r ≡ traceOf a b tol guess n l .answer) (buffer : after ≡ traceOf a b tol guess n l .buffer) (count start closing : ℕ) (is-line : r ≡ Line count start closing) where
+  pub traced-passes : Passes a b tol after count start closing
+  traced-passes =
+      subst (λ (k : List Float). Passes a b tol k count start closing) (sym buffer)
+      (trace-passes a b tol guess n l fc count start closing (sym answer ∙ is-line))
+
+  -- and so `check` says passed of it
+  pub traced-checked : checkOf a b tol after count start closing ≡ Passed
+  traced-checked = passes-checked a b tol after count start closing traced-passes

@@ -1,0 +1,124 @@
+-- The rows of a line in the lent buffer, and that a row of good parameters passes. Assumes nothing.
+use mathlib.Core.Path.{_≡_, refl, ap, sym, subst, _∙_}
+use mathlib.Core.Bool.{Bool, true, false}
+use mathlib.Core.List.{List, [], _∷_, _++_}
+use Prim.Native.Nat.{ℕ, zero, suc, _+_, _-_, _*_, _≤_, _<_}
+use native.Mathlib.Omega.{arith}
+use lib.Dec.{T}
+use lib.Ieee.{Float, nan, binary64, fits}
+use lib.Ieee.Scale.{finite}
+use lib.ListN.{length, getD, length-append}
+use lib.Seq.{getD-append-add}
+use Rattle.number.specs.Operators.{_≤?_}
+use Rattle.groups.specs.declared.row.Row.{Row}
+use Rattle.groups.specs.Row.{numbersOf, rowAt}
+use Rattle.geometry.specs.declared.point.Point3D.{Point3D}
+use Rattle.geometry.specs.declared.tolerance.Tolerance.{Tolerance}
+use Rattle.geometry.specs.Tolerance.{toleranceFit}
+use Rattle.geometry.specs.Point.{distanceOf, longestChord}
+use Rattle.patch.specs.declared.patch.Patch.{Patch}
+use Rattle.patch.specs.declared.patch.Parameters.{Parameters}
+use Rattle.patch.specs.declared.patch.Fitness.the-variants.{Fit}
+use Rattle.patch.specs.Patch.{fitnessOf, insideOf}
+use Rattle.patch.specs.Located.{pointA, pointB}
+use Rattle.good.specs.Good.{Good}
+use Rattle.good.proofs.Good.{good-finite}
+use Rattle.certificate.specs.Passes.{pointAt, parametersAt, closingChord, PointPasses, ClosedAs, claimed-open, forward, backward, Passes}
+use Rattle.walk.specs.Lent.{ownRow, rowsOf}
+use Rattle.walk.proofs.Halves.{rows-length}
+use Rattle.passing.proofs.Chains.{All, all-at}
+use Rattle.passing.proofs.Halves.{Near}
+use Rattle.passing.proofs.Lines.{Round, not-round, round-forward, round-back, LineFine}
+
+-- ---- row i is the i-th point's
+
+seven-past : (r : Row) (t : List Float) (i k m : ℕ) → m ≡ 7 + (7 * i + k) → getD (numbersOf r ++ t) m nan ≡ getD t (7 * i + k) nan
+seven-past r t i k m e = ap (λ (j : ℕ). getD (numbersOf r ++ t) j nan) e ∙ getD-append-add (numbersOf r) t (7 * i + k) nan
+
+row-past : (r : Row) (t : List Float) (i : ℕ) → rowAt (numbersOf r ++ t) (suc i) ≡ rowAt t i
+row-past r t i =
+    let e0 : getD (numbersOf r ++ t) (7 * suc i) nan ≡ getD t (7 * i) nan =
+    seven-past r t i 0 (7 * suc i) (omega arith) ∙ ap (λ (j : ℕ). getD t j nan) (let e : 7 * i + 0 ≡ 7 * i = omega arith in e) in
+    let e1 = seven-past r t i 1 (7 * suc i + 1) (omega arith) in
+    let e2 = seven-past r t i 2 (7 * suc i + 2) (omega arith) in
+    let e3 = seven-past r t i 3 (7 * suc i + 3) (omega arith) in
+    let e4 = seven-past r t i 4 (7 * suc i + 4) (omega arith) in
+    let e5 = seven-past r t i 5 (7 * suc i + 5) (omega arith) in
+    let e6 = seven-past r t i 6 (7 * suc i + 6) (omega arith) in
+    λ k. record { x = e0 k; y = e1 k; z = e2 k; u1 = e3 k; v1 = e4 k; u2 = e5 k; v2 = e6 k }
+
+pub row-of : (a : Patch) (points : List Parameters) (rest : List Float) (d : Parameters) (i : ℕ) → i < length points → rowAt (rowsOf a points ++ rest) i ≡ ownRow a (getD points i d)
+unfolding rowsOf
+row-of a [] rest d i h = absurd (let e : ⊥ = omega arith in e)
+row-of a (y ∷ ys) rest d zero h = refl
+row-of a (y ∷ ys) rest d (suc i) h = row-past (ownRow a y) (rowsOf a ys ++ rest) i ∙ row-of a ys rest d i (omega arith)
+
+-- ---- one row
+
+abbrev pointIn : Row → Point3D
+pointIn r = record { x = r .x; y = r .y; z = r .z }
+
+abbrev parametersIn : Row → Parameters
+parametersIn r = record { u1 = r .u1; v1 = r .v1; u2 = r .u2; v2 = r .v2 }
+
+record RowPasses (a b : Patch) (confusion : Float) (r : Row) : Type 0 where
+  inside : T (insideOf a b (parametersIn r))
+  finite-x : T (finite (pointA a (parametersIn r) .x))
+  finite-y : T (finite (pointA a (parametersIn r) .y))
+  finite-z : T (finite (pointA a (parametersIn r) .z))
+  own : pointIn r ≡ pointA a (parametersIn r)
+  gap : T (distanceOf (pointA a (parametersIn r)) (pointB b (parametersIn r)) ≤? confusion)
+
+module _ (a b : Patch) (tol : Tolerance) (fc : T (fits binary64 (tol .confusion))) (fit : T (toleranceFit tol)) where
+  good-row : (y : Parameters) → Good a b (tol .confusion) y → RowPasses a b (tol .confusion) (ownRow a y)
+  good-row y g =
+      let f = good-finite a b tol fc fit y g .0 in
+      record { inside = g .inside; finite-x = f .x-finite; finite-y = f .y-finite; finite-z = f .z-finite; own = refl; gap = g .gap }
+
+  -- ---- a line in the buffer
+
+  module _ (x : Parameters) (n : ℕ) (points : List Parameters) (start closing : ℕ) (v : LineFine a b (tol .confusion) x n points start closing) (rest : List Float) where
+    abbrev l : List Float
+    l = rowsOf a points ++ rest
+
+    row-is : (i : ℕ) → i < length points → rowAt l i ≡ ownRow a (getD points i x)
+    row-is i h = row-of a points rest x i h
+
+    point-passes : (i : ℕ) → i < length points → PointPasses a b tol l i
+    point-passes i h =
+        let r = subst (RowPasses a b (tol .confusion)) (sym (row-is i h)) (good-row (getD points i x) (all-at (Good a b (tol .confusion)) points x i h (v .good))) in
+        record { inside = r .inside; finite-x = r .finite-x; finite-y = r .finite-y; finite-z = r .finite-z; own = r .own; gap = r .gap }
+
+    point-is : (i : ℕ) → i < length points → pointAt l i ≡ pointA a (getD points i x)
+    point-is i h = ap pointIn (row-is i h)
+
+    chord-passes : (i : ℕ) → 0 < i → i < length points → closingChord (length points) closing i ≡ false → T (distanceOf (pointAt l i) (pointAt l (i - 1)) ≤? longestChord)
+    chord-passes zero z h c = absurd (let e : ⊥ = omega arith in e)
+    chord-passes (suc j) z h c =
+        subst (λ (k : ℕ). T (distanceOf (pointAt l (suc j)) (pointAt l k) ≤? longestChord)) (let e : j ≡ suc j - 1 = omega arith in e)
+        (subst (λ (p : Point3D). T (distanceOf p (pointAt l j) ≤? longestChord)) (sym (point-is (suc j) h))
+        (subst (λ (p : Point3D). T (distanceOf (pointA a (getD points (suc j) x)) p ≤? longestChord)) (sym (point-is j (omega arith)))
+        (v .chords j h c)))
+
+    -- equal parameters, equal rows
+    rows-same : (i j : ℕ) → i < length points → j < length points → getD points i x ≡ getD points j x → rowAt l i ≡ rowAt l j
+    rows-same i j h k e = row-is i h ∙ ap (ownRow a) e ∙ sym (row-is j k)
+
+    closed-as : Round x points start closing → ClosedAs l (length points) start closing
+    closed-as (not-round e) = claimed-open e
+    closed-as (round-forward e s q) = let m = v .among in forward e s (rows-same (length points - 1) 0 (omega (arith, m)) (omega (arith, m)) q)
+    closed-as (round-back e s q) = let m = v .among in backward e s (rows-same 0 start (omega (arith, m)) m q)
+
+    pub line-passes : fitnessOf a ≡ Fit → fitnessOf b ≡ Fit → 4 ≤ length points → n ≤ 2000 → Passes a b tol l (length points) start closing
+    line-passes fa fb least cap = record {
+      fitA = fa;
+      fitB = fb;
+      tolerance = fit;
+      lent = let e = length-append (rowsOf a points) rest in let s = rows-length a points in omega (arith, e, s);
+      least = least;
+      most = let f = v .few in omega (arith, f, cap);
+      among = v .among;
+      closed = closed-as (v .closed);
+      points = point-passes;
+      chords = chord-passes;
+    }

@@ -1,0 +1,44 @@
+// When a half has come round, and how long a stride may be.
+use geometry::Point3D;
+ghost use mathlib.Core.Path.{_≡_};
+ghost use Rattle.step.specs.Closing.{alongOf, closesOf, firstStride, nextStride};
+
+// How far along the chord from p to q the start lies.
+fn along(start: Point3D, p: Point3D, q: Point3D) -> f64
+    ensures { λ r. ⌜ r ≡ alongOf start p q ⌝ }
+{
+    let chord = q.sub(p);
+    start.sub(p).dot(chord) / number::max(chord.dot(chord), number::MIN_POSITIVE)
+}
+
+// Whether the chord from p to q passes the start closely enough.
+pub fn closes(confusion: f64, start: Point3D, p: Point3D, q: Point3D) -> bool
+    ensures { λ r. ⌜ r ≡ closesOf confusion start p q ⌝ }
+{
+    let s = along(start, p, q);
+    if 0.0 <= s {
+        if s <= 1.0 {
+            let nearest = p.add(q.sub(p).scale(s));
+            nearest.distance(start) <= 4.0 * (1000.0 * confusion) + 10.0 * confusion
+        } else {
+            false
+        }
+    } else {
+        false
+    }
+}
+
+// The length that a half tries first.
+pub fn first_stride(confusion: f64) -> f64
+    ensures { λ r. ⌜ r ≡ firstStride confusion ⌝ }
+{
+    number::min(sqrt::sqrt(8.0 * (1000.0 * confusion)), 0.1)
+}
+
+// The length to try after a stride of length h: twice that, at most 0.1, and short enough for the curvature.
+pub fn next_stride(confusion: f64, h: f64, curvature: f64) -> f64
+    ensures { λ r. ⌜ r ≡ nextStride confusion h curvature ⌝ }
+{
+    let bend = 8.0 * (1000.0 * confusion) / number::max(curvature, number::MIN_POSITIVE);
+    number::min(number::min(2.0 * h, 0.1), sqrt::sqrt(bend))
+}
