@@ -1,5 +1,3 @@
 pub mod Turns
 pub mod Bits
 pub mod Passed
-pub mod Exact
-pub mod Evaluated

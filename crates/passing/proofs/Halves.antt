@@ -8,7 +8,7 @@ use lib.Dec.{T}
 use lib.Ieee.{Float, binary64, fits}
 use lib.ListN.{length}
 use Rattle.loops.specs.Loop.{pick, Flow, on, out, searched}
-use Rattle.loops.proofs.Loop.{Kept}
+use Rattle.loops.proofs.Loop.{Kept, searched-keeps-at}
 use Rattle.number.specs.Operators.{_≤?_}
 use Rattle.geometry.specs.declared.point.Point3D.{Point3D}
 use Rattle.geometry.specs.declared.vector.Vector3D.{Vector3D}

@@ -3,3 +3,5 @@ pub mod Halves
 pub mod Lines
 pub mod Rows
 pub mod Passing
+pub mod Evaluated
+pub mod Exact
