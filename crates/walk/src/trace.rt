@@ -98,13 +98,11 @@ fn walked(
     requires { ⌜ (n ≤ 2000) × (length (now points) ≡ room n) ⌝ }
     ensures { λ r. ⌜ (r ≡ walkedOf a b tol guess n .answer) × (now (points .exit) ≡ walkedOf a b tol guess n .buffer) ⌝ }
 {
-    let met = meet(a, b, guess, tol);
-    let Met::At(seed) = met else {
+    let Met::At(seed) = meet(a, b, guess, tol) else {
         clear(&mut *points, 0);
         return Traced::Refused(Refusal::NoMeeting);
     };
-    let direction = tangent(a, b, seed, tol);
-    let Direction::Along(t) = direction else {
+    let Direction::Along(t) = tangent(a, b, seed, tol) else {
         clear(&mut *points, 0);
         return Traced::Refused(Refusal::NoDirection);
     };

@@ -13,8 +13,8 @@ use Rattle.walk.proofs.trace.walked.Tie as tie
 meet-requires : tie.Need-meet-requires
 meet-requires c κs = search needs
 
-enum-known-met : tie.Need-enum-known-met
-enum-known-met c = search needs
+enum-known-seed : tie.Need-enum-known-seed
+enum-known-seed c = search needs
 
 enum-told : tie.Need-enum-told
 enum-told c = search needs
@@ -35,8 +35,8 @@ returns c =
 tangent-requires : tie.Need-tangent-requires
 tangent-requires c κs = search needs
 
-enum-known-direction : tie.Need-enum-known-direction
-enum-known-direction c = search needs
+enum-known-t : tie.Need-enum-known-t
+enum-known-t c = search needs
 
 enum-told-2 : tie.Need-enum-told-2
 enum-told-2 c = search needs
@@ -52,7 +52,7 @@ unfolding walkedOf
 returns-2 c =
     let st = c .before .before .before .before .before .before .before .before .before .before .before .before in
     let z = c .before .before .clear2 .ensures ∙ cleared (now (st .args .points)) ∙ ap (λ (k : ℕ). replicate k zero) (st .pre .1) in
-    (rw (← c .before .before .before .before .before .before .before .before .before .before .meet .ensures, c .before .before .before .before .before .before .before .before .met .given .1, ← c .before .before .before .before .before .before .tangent .ensures, c .before .before .before .before .enum-told2 .given .1), rw (← c .before .before .before .before .before .before .before .before .before .before .meet .ensures, c .before .before .before .before .before .before .before .before .met .given .1, ← c .before .before .before .before .before .before .tangent .ensures, c .before .before .before .before .enum-told2 .given .1) z)
+    (rw (← c .before .before .before .before .before .before .before .before .before .before .meet .ensures, c .before .before .before .before .before .before .before .before .seed .given .1, ← c .before .before .before .before .before .before .tangent .ensures, c .before .before .before .before .enum-told2 .given .1), rw (← c .before .before .before .before .before .before .before .before .before .before .meet .ensures, c .before .before .before .before .before .before .before .before .seed .given .1, ← c .before .before .before .before .before .before .tangent .ensures, c .before .before .before .before .enum-told2 .given .1) z)
 
 eval-point-requires : tie.Need-eval-point-requires
 eval-point-requires c κs = search needs
@@ -67,20 +67,20 @@ returns-3 : tie.Need-returns-3
 unfolding walkedOf
 returns-3 c =
     let z = c .before .before .line .ensures in
-    (rw (← c .before .before .before .before .before .before .before .before .before .before .before .before .meet .ensures, c .before .before .before .before .before .before .before .before .before .before .met .given .1, ← c .before .before .before .before .before .before .before .before .tangent .ensures, c .before .before .before .before .before .before .direction .given .1) (z .0), rw (← c .before .before .before .before .before .before .before .before .before .before .before .before .meet .ensures, c .before .before .before .before .before .before .before .before .before .before .met .given .1, ← c .before .before .before .before .before .before .before .before .tangent .ensures, c .before .before .before .before .before .before .direction .given .1) (z .1))
+    (rw (← c .before .before .before .before .before .before .before .before .before .before .before .before .meet .ensures, c .before .before .before .before .before .before .before .before .before .before .seed .given .1, ← c .before .before .before .before .before .before .before .before .tangent .ensures, c .before .before .before .before .before .before .t .given .1) (z .0), rw (← c .before .before .before .before .before .before .before .before .before .before .before .before .meet .ensures, c .before .before .before .before .before .before .before .before .before .before .seed .given .1, ← c .before .before .before .before .before .before .before .before .tangent .ensures, c .before .before .before .before .before .before .t .given .1) (z .1))
 
 pub walked-spec : {M : Type 1} → statement M
 walked-spec =
     tie.close
     (tie.spec
     meet-requires
-    enum-known-met
+    enum-known-seed
     enum-told
     clear-requires
     same-length
     returns
     tangent-requires
-    enum-known-direction
+    enum-known-t
     enum-told-2
     clear-requires-2
     same-length-2
