@@ -75,6 +75,13 @@ def cases():
     # 19 comes before all else, and A's refusals before B's
     yield at(kind(1), 4, b"\x02"), "refused 19"
     yield at(kind(1), 151 + 1, b"\x01"), "refused 2"
+    # two rules broken at once: the one that is tested first answers
+    no_number = struct.pack(">Q", 0x7FF8000000000000)
+    low = ten(confusion=bits(least - 1))
+    yield at(low, 313, no_number), "refused 5"
+    yield at(ten(cap="1"), 313, no_number), "refused 6"
+    yield at(low, 151 + 1, b"\x01"), "refused 4"
+    yield at(at(whole, 6, b"\x01"), 151 + 2, no_number), "refused 4"
     # NaN patterns, quiet and signalling, are NaN
     for nan in (0x7FF8000000000000, 0x7FF0000000000001, 0xFFF0000000000001, 0xFFFFFFFFFFFFFFFF):
         word = struct.pack(">Q", nan)

@@ -2,7 +2,7 @@
 use mathlib.Core.Path.{refl}
 use lib.Ieee.{toBits, ofBits}
 use Rattle.sqrt.specs.Sqrt.{sqrtOf}
-use Rattle.geometry.specs.Vector.{vectorOf, scaleOf}
+use Rattle.geometry.specs.Vector.{vectorOf, zeroVector, scaleOf}
 use Rattle.geometry.specs.Point.{pointOf, addVectorOf}
 use Rattle.geometry.specs.Frame.{pointAtOf}
 use Rattle.analytic.specs.Analytic.{planeD0, cylinderD0}
@@ -21,7 +21,7 @@ use Rattle.walk.specs.Trace.{guessFinite, limitsOf, callFitness, walkedOf, trac
 use Rattle.examples.specs.Table.{Table}
 
 pub table : Table
-unfolding evalPoint planeD0 cylinderD0 pointAtOf addVectorOf scaleOf pointOf vectorOf fdlibm.computing solve.computing boxes.computing leavingOf firstOf considerOf lesserOf meeting.computing normalOf unitCross tangentOf fitnessOf numbersFit sizesFit windowFit markFit uIsAngle vIsAngle frameFit vectorFit pointFit numberFit defaultTolerance toleranceFit guessFinite limitsOf callFitness walkedOf traceOf sqrtOf toBits ofBits
+unfolding evalPoint planeD0 cylinderD0 pointAtOf addVectorOf scaleOf pointOf vectorOf zeroVector fdlibm.computing solve.computing boxes.computing leavingOf firstOf considerOf lesserOf meeting.computing normalOf unitCross tangentOf fitnessOf numbersFit sizesFit windowFit markFit uIsAngle vIsAngle frameFit vectorFit pointFit numberFit defaultTolerance toleranceFit guessFinite limitsOf callFitness walkedOf traceOf sqrtOf toBits ofBits
 table =
     record {
       row1 = refl;

@@ -19,9 +19,10 @@ use Rattle.boxes.specs.declared.boxtree.Aabb.{Aabb}
 use Rattle.boxes.specs.declared.crossing.Crossed.the-variants as crossed
 use Rattle.boxes.specs.Crossing.{crossingOf}
 use Rattle.geometry.specs.declared.point.Point3D.{Point3D}
+use Rattle.geometry.specs.declared.vector.Vector3D.{Vector3D}
 use Rattle.geometry.specs.declared.frame.Frame3D.{Frame3D}
-use Rattle.geometry.specs.Vector.{vectorOf}
-use Rattle.geometry.specs.Point.{pointOf}
+use Rattle.geometry.specs.Vector.{vectorOf, zeroVector}
+use Rattle.geometry.specs.Point.{pointOf, addVectorOf}
 use Rattle.analytic.specs.declared.surface.Surface.the-variants.{Plane, Cylinder}
 use Rattle.analytic.specs.Surface.{evalPoint}
 use Rattle.sqrt.specs.Sqrt.{sqrtOf}
@@ -29,7 +30,7 @@ use Rattle.cramer.specs.Cramer.{solve2Of}
 use Rattle.solve.specs.Solve.{solve3Of}
 use Rattle.cramer.specs.declared.Solved2.the-variants as solved2
 use Rattle.solve.specs.declared.Solved3.the-variants as solved3
-use Rattle.walk.specs.Trace.{traceOf, refusalOf}
+use Rattle.walk.specs.Trace.{Outcome, traceOf, refusalOf}
 
 -- the numbers of the rows
 abbrev pub zero : Float
@@ -111,13 +112,18 @@ confusion20 t = record { confusion = bits 0x3eb0_0000_0000_0000; angular = bits 
 abbrev pub boxAt : Float → Float → Float → Aabb
 boxAt x y z = record { low = record { x = x; y = y; z = z }; high = record { x = x; y = y; z = z } }
 
+-- the frame with these axes whose origin is 0 moved by a vector
+abbrev pub movedFrame : Vector3D → Frame3D
+movedFrame by = record {
+  origin = addVectorOf (pointOf zero zero zero) by;
+  x = vectorOf one zero zero;
+  y = vectorOf zero one zero;
+  z = vectorOf zero zero one;
+}
+
 -- ""Unit frame" is origin 0 with axes (1,0,0), (0,1,0), (0,0,1)."
 abbrev pub unitFrame : Frame3D
-unitFrame = record { origin = pointOf zero zero zero; x = vectorOf one zero zero; y = vectorOf zero one zero; z = vectorOf zero zero one }
-
--- the unit frame with its origin moved to this z
-abbrev pub frameAt : Float → Frame3D
-frameAt z = record { origin = pointOf zero zero z; x = vectorOf one zero zero; y = vectorOf zero one zero; z = vectorOf zero zero one }
+unitFrame = movedFrame zeroVector
 
 -- "plane, windows -1 to 1, no marks"
 abbrev pub squarePlane : Frame3D → Patch
@@ -126,6 +132,10 @@ squarePlane f = record {
   u = record { low = -one; high = one; turn = false };
   v = record { low = -one; high = one; turn = false };
 }
+
+-- example 9's call: B is A moved by a vector; "default tolerance, cap 2", "guess all 0"
+abbrev pub nineOf : Vector3D → List Float → Outcome
+nineOf by l = traceOf (squarePlane unitFrame) (squarePlane (movedFrame by)) defaultTolerance (parameters zero zero zero zero) 2 l
 
 -- numbers lent, whatever they are
 abbrev pub lent : ℕ → (ℕ → Float) → List Float
@@ -167,9 +177,6 @@ pub record Table : Type 0 where
   -- "A and B the same unit-frame plane, windows -1 to 1, no marks, default tolerance, cap 2, 35 numbers lent, guess all 0: 10. B's origin
   -- moved to z = 1: 9." (and the 35 numbers are positive zero afterwards)
   pub row9 :
-      ((p : ℕ → Float)
-      → (refusalOf (traceOf (squarePlane unitFrame) (squarePlane unitFrame) defaultTolerance (parameters zero zero zero zero) 2 (lent 35 p) .answer) ≡ 10)
-      × (traceOf (squarePlane unitFrame) (squarePlane unitFrame) defaultTolerance (parameters zero zero zero zero) 2 (lent 35 p) .buffer ≡ replicate 35 zero))
+      ((p : ℕ → Float) → (refusalOf (nineOf zeroVector (lent 35 p) .answer) ≡ 10) × (nineOf zeroVector (lent 35 p) .buffer ≡ replicate 35 zero))
       × ((p : ℕ → Float)
-      → (refusalOf (traceOf (squarePlane unitFrame) (squarePlane (frameAt one)) defaultTolerance (parameters zero zero zero zero) 2 (lent 35 p) .answer) ≡ 9)
-      × (traceOf (squarePlane unitFrame) (squarePlane (frameAt one)) defaultTolerance (parameters zero zero zero zero) 2 (lent 35 p) .buffer ≡ replicate 35 zero))
+      → (refusalOf (nineOf (vectorOf zero zero one) (lent 35 p) .answer) ≡ 9) × (nineOf (vectorOf zero zero one) (lent 35 p) .buffer ≡ replicate 35 zero))
