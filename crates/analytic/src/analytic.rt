@@ -30,16 +30,20 @@ pub(crate) fn plane_derivatives(frame: Frame3D) -> Derivatives
 pub(crate) fn cylinder_d0(frame: Frame3D, r: f64, u: f64, v: f64) -> Point3D
     ensures { λ p. ⌜ p ≡ cylinderD0 frame r u v ⌝ }
 {
-    let a1 = r * fdlibm::cos(u);
-    let a2 = r * fdlibm::sin(u);
+    let mut cu = 0.0;
+    let su = fdlibm::sin_cos(u, &mut cu);
+    let a1 = r * cu;
+    let a2 = r * su;
     frame.point_at(a1, a2, v)
 }
 
 pub(crate) fn cylinder_derivatives(frame: Frame3D, r: f64, u: f64) -> Derivatives
     ensures { λ d. ⌜ d ≡ cylinderDerivatives frame r u ⌝ }
 {
-    let a1 = r * fdlibm::cos(u);
-    let a2 = r * fdlibm::sin(u);
+    let mut cu = 0.0;
+    let su = fdlibm::sin_cos(u, &mut cu);
+    let a1 = r * cu;
+    let a2 = r * su;
     let x = frame.x_direction();
     let y = frame.y_direction();
     Derivatives {
@@ -51,9 +55,12 @@ pub(crate) fn cylinder_derivatives(frame: Frame3D, r: f64, u: f64) -> Derivative
 pub(crate) fn cone_d0(frame: Frame3D, ref_r: f64, semi_angle: f64, u: f64, v: f64) -> Point3D
     ensures { λ p. ⌜ p ≡ coneD0 frame «ref_r» «semi_angle» u v ⌝ }
 {
-    let r = ref_r + v * fdlibm::sin(semi_angle);
-    let a3 = v * fdlibm::cos(semi_angle);
-    frame.point_at(r * fdlibm::cos(u), r * fdlibm::sin(u), a3)
+    let mut ca = 0.0;
+    let sa = fdlibm::sin_cos(semi_angle, &mut ca);
+    let mut cu = 0.0;
+    let su = fdlibm::sin_cos(u, &mut cu);
+    let r = ref_r + v * sa;
+    frame.point_at(r * cu, r * su, v * ca)
 }
 
 pub(crate) fn cone_derivatives(
@@ -65,14 +72,14 @@ pub(crate) fn cone_derivatives(
 ) -> Derivatives
     ensures { λ d. ⌜ d ≡ coneDerivatives frame «ref_r» «semi_angle» u v ⌝ }
 {
-    let sa = fdlibm::sin(semi_angle);
-    let ca = fdlibm::cos(semi_angle);
+    let mut ca = 0.0;
+    let sa = fdlibm::sin_cos(semi_angle, &mut ca);
+    let mut cu = 0.0;
+    let su = fdlibm::sin_cos(u, &mut cu);
     let r = ref_r + v * sa;
     let x = frame.x_direction();
     let y = frame.y_direction();
     let z = frame.z_direction();
-    let su = fdlibm::sin(u);
-    let cu = fdlibm::cos(u);
     Derivatives {
         u: x.scale(-r * su).add(y.scale(r * cu)),
         v: x.scale(cu).add(y.scale(su)).scale(sa).add(z.scale(ca)),
@@ -82,24 +89,24 @@ pub(crate) fn cone_derivatives(
 pub(crate) fn sphere_d0(frame: Frame3D, r: f64, u: f64, v: f64) -> Point3D
     ensures { λ p. ⌜ p ≡ sphereD0 frame r u v ⌝ }
 {
-    let rcv = r * fdlibm::cos(v);
-    frame.point_at(
-        rcv * fdlibm::cos(u),
-        rcv * fdlibm::sin(u),
-        r * fdlibm::sin(v),
-    )
+    let mut cv = 0.0;
+    let sv = fdlibm::sin_cos(v, &mut cv);
+    let mut cu = 0.0;
+    let su = fdlibm::sin_cos(u, &mut cu);
+    let rcv = r * cv;
+    frame.point_at(rcv * cu, rcv * su, r * sv)
 }
 
 pub(crate) fn sphere_derivatives(frame: Frame3D, r: f64, u: f64, v: f64) -> Derivatives
     ensures { λ d. ⌜ d ≡ sphereDerivatives frame r u v ⌝ }
 {
+    let mut cv = 0.0;
+    let sv = fdlibm::sin_cos(v, &mut cv);
+    let mut cu = 0.0;
+    let su = fdlibm::sin_cos(u, &mut cu);
     let x = frame.x_direction();
     let y = frame.y_direction();
     let z = frame.z_direction();
-    let su = fdlibm::sin(u);
-    let cu = fdlibm::cos(u);
-    let sv = fdlibm::sin(v);
-    let cv = fdlibm::cos(v);
     let rcv = r * cv;
     Derivatives {
         u: x.scale(-su).add(y.scale(cu)).scale(rcv),
@@ -113,20 +120,24 @@ pub(crate) fn sphere_derivatives(frame: Frame3D, r: f64, u: f64, v: f64) -> Deri
 pub(crate) fn torus_d0(frame: Frame3D, maj: f64, min: f64, u: f64, v: f64) -> Point3D
     ensures { λ p. ⌜ p ≡ torusD0 frame maj min u v ⌝ }
 {
-    let r = maj + min * fdlibm::cos(v);
-    frame.point_at(r * fdlibm::cos(u), r * fdlibm::sin(u), min * fdlibm::sin(v))
+    let mut cv = 0.0;
+    let sv = fdlibm::sin_cos(v, &mut cv);
+    let mut cu = 0.0;
+    let su = fdlibm::sin_cos(u, &mut cu);
+    let r = maj + min * cv;
+    frame.point_at(r * cu, r * su, min * sv)
 }
 
 pub(crate) fn torus_derivatives(frame: Frame3D, maj: f64, min: f64, u: f64, v: f64) -> Derivatives
     ensures { λ d. ⌜ d ≡ torusDerivatives frame maj min u v ⌝ }
 {
+    let mut cv = 0.0;
+    let sv = fdlibm::sin_cos(v, &mut cv);
+    let mut cu = 0.0;
+    let su = fdlibm::sin_cos(u, &mut cu);
     let x = frame.x_direction();
     let y = frame.y_direction();
     let z = frame.z_direction();
-    let su = fdlibm::sin(u);
-    let cu = fdlibm::cos(u);
-    let sv = fdlibm::sin(v);
-    let cv = fdlibm::cos(v);
     let r = maj + min * cv;
     Derivatives {
         u: x.scale(-su).add(y.scale(cu)).scale(r),

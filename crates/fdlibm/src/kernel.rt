@@ -1,6 +1,8 @@
 //! The sine and the cosine of an angle of at most about pi/4, given as x with a tail y: k_sin.c and k_cos.c.
+use crate::SinCos;
 ghost use mathlib.Core.Path.{_≡_};
 ghost use Prim.Native.Nat.{_≤_};
+ghost use Rattle.fdlibm.specs.Words.{ixOf};
 ghost use Rattle.fdlibm.specs.Kernel.{kernelSin, kernelCos, qxOf};
 
 const S1: f64 = -1.66666666666666324348e-01;
@@ -28,13 +30,10 @@ const C5: f64 = 2.08757232129817482790e-09;
 const C6: f64 = -1.13596475577881948265e-11;
 
 // The sine of x + y, where tail says whether there is a y at all.
-pub(crate) fn kernel_sin(x: f64, y: f64, tail: bool) -> f64
+fn kernel_sin(x: f64, y: f64, tail: bool) -> f64
+    requires { ⌜ 0x3e400000 ≤ ixOf x ⌝ }
     ensures { λ r. ⌜ r ≡ kernelSin x y tail ⌝ }
 {
-    let ix = (number::to_bits(x) >> 32) & 0x7fff_ffff;
-    if ix < 0x3e40_0000 {
-        return x;
-    }
     let z = x * x;
     let v = z * x;
     let r = S2 + z * (S3 + z * (S4 + z * (S5 + z * S6)));
@@ -57,14 +56,11 @@ fn quarter(ix: u64) -> f64
     }
 }
 
-// The cosine of x + y.
-pub(crate) fn kernel_cos(x: f64, y: f64) -> f64
+// The cosine of x + y, where ix is the high word of x.
+fn kernel_cos(x: f64, y: f64, ix: u64) -> f64
+    requires { ⌜ (ix ≡ ixOf x) × (0x3e400000 ≤ ix) ⌝ }
     ensures { λ r. ⌜ r ≡ kernelCos x y ⌝ }
 {
-    let ix = (number::to_bits(x) >> 32) & 0x7fff_ffff;
-    if ix < 0x3e40_0000 {
-        return 1.0;
-    }
     let z = x * x;
     let r = z * (C1 + z * (C2 + z * (C3 + z * (C4 + z * (C5 + z * C6)))));
     if ix < 0x3fd3_3333 {
@@ -73,4 +69,18 @@ pub(crate) fn kernel_cos(x: f64, y: f64) -> f64
     let qx = quarter(ix);
     let hz = 0.5 * z - qx;
     (1.0 - qx) - (hz - (z * r - x * y))
+}
+
+// Both, after one test of the high word.
+pub(crate) fn kernels(x: f64, y: f64, tail: bool) -> SinCos
+    ensures { λ r. ⌜ (r .sin ≡ kernelSin x y tail) × (r .cos ≡ kernelCos x y) ⌝ }
+{
+    let ix = (number::to_bits(x) >> 32) & 0x7fff_ffff;
+    if ix < 0x3e40_0000 {
+        return SinCos { sin: x, cos: 1.0 };
+    }
+    SinCos {
+        sin: kernel_sin(x, y, tail),
+        cos: kernel_cos(x, y, ix),
+    }
 }

@@ -10,62 +10,80 @@ use reduction::Reduction;
 mod kernel; // k_sin.c, k_cos.c
 mod reduction; // e_rem_pio2.c
 
-// The sine of a reduced angle, by its quadrant.
-fn sin_at(a: Reduction) -> f64
-    ensures { λ r. ⌜ r ≡ sinAt a ⌝ }
+// The sine and the cosine of one angle.
+pub struct SinCos {
+    pub sin: f64,
+    pub cos: f64,
+}
+
+// Both of a reduced angle, by its quadrant.
+fn both_at(a: Reduction) -> SinCos
+    ensures { λ r. ⌜ (r .sin ≡ sinAt a) × (r .cos ≡ cosAt a) ⌝ }
 {
+    let k = kernel::kernels(a.y0, a.y1, true);
     let quadrant = a.quadrant;
     match quadrant {
-        0 => kernel::kernel_sin(a.y0, a.y1, true),
-        1 => kernel::kernel_cos(a.y0, a.y1),
-        2 => -kernel::kernel_sin(a.y0, a.y1, true),
-        _ => -kernel::kernel_cos(a.y0, a.y1),
+        0 => k,
+        1 => SinCos {
+            sin: k.cos,
+            cos: -k.sin,
+        },
+        2 => SinCos {
+            sin: -k.sin,
+            cos: -k.cos,
+        },
+        _ => SinCos {
+            sin: -k.cos,
+            cos: k.sin,
+        },
     }
 }
 
-// The cosine of a reduced angle, by its quadrant.
-fn cos_at(a: Reduction) -> f64
-    ensures { λ r. ⌜ r ≡ cosAt a ⌝ }
+// The sine and the cosine by one reduction; NaNs for an angle that is beyond reach, infinite or a NaN.
+fn both(x: f64) -> SinCos
+    ensures { λ r. ⌜ (r .sin ≡ sinOf x) × (r .cos ≡ cosOf x) ⌝ }
 {
-    let quadrant = a.quadrant;
-    match quadrant {
-        0 => kernel::kernel_cos(a.y0, a.y1),
-        1 => -kernel::kernel_sin(a.y0, a.y1, true),
-        2 => -kernel::kernel_cos(a.y0, a.y1),
-        _ => kernel::kernel_sin(a.y0, a.y1, true),
+    let ix = (number::to_bits(x) >> 32) & 0x7fff_ffff;
+    if ix <= 0x3fe9_21fb {
+        return kernel::kernels(x, 0.0, false);
     }
+    if 0x7ff0_0000 <= ix {
+        return SinCos {
+            sin: x - x,
+            cos: x - x,
+        };
+    }
+    let Reduced::To(a) = reduction::rem_pio2(x) else {
+        return SinCos {
+            sin: 0.0 / 0.0,
+            cos: 0.0 / 0.0,
+        };
+    };
+    both_at(a)
 }
 
-// The sine; a NaN for an angle that is beyond reach, infinite or a NaN.
+// The sine, with the cosine put into `cos`. A struct of the two would be read as one piece just after it was stored as two, which waits.
+pub fn sin_cos(x: f64, cos: &mut f64) -> f64
+    ensures { λ r. ⌜ (r ≡ sinOf x) × (now (cos .exit) ≡ cosOf x) ⌝ }
+{
+    let at = both(x);
+    *cos = at.cos;
+    at.sin
+}
+
+// The sine.
 pub fn sin(x: f64) -> f64
     ensures { λ r. ⌜ r ≡ sinOf x ⌝ }
 {
-    let ix = (number::to_bits(x) >> 32) & 0x7fff_ffff;
-    if ix <= 0x3fe9_21fb {
-        return kernel::kernel_sin(x, 0.0, false);
-    }
-    if 0x7ff0_0000 <= ix {
-        return x - x;
-    }
-    let Reduced::To(a) = reduction::rem_pio2(x) else {
-        return 0.0 / 0.0;
-    };
-    sin_at(a)
+    let mut cos = 0.0;
+    sin_cos(x, &mut cos)
 }
 
-// The cosine; a NaN for an angle that is beyond reach, infinite or a NaN.
+// The cosine.
 pub fn cos(x: f64) -> f64
     ensures { λ r. ⌜ r ≡ cosOf x ⌝ }
 {
-    let ix = (number::to_bits(x) >> 32) & 0x7fff_ffff;
-    if ix <= 0x3fe9_21fb {
-        return kernel::kernel_cos(x, 0.0);
-    }
-    if 0x7ff0_0000 <= ix {
-        return x - x;
-    }
-    let Reduced::To(a) = reduction::rem_pio2(x) else {
-        return 0.0 / 0.0;
-    };
-    cos_at(a)
+    let mut cos = 0.0;
+    let sin = sin_cos(x, &mut cos);
+    cos
 }

@@ -1,7 +1,9 @@
 //! The reduction of an angle by multiples of pi/2: e_rem_pio2.c up to its medium range.
 ghost use mathlib.Core.Path.{_≡_};
+ghost use Prim.Native.Nat.{_<_};
 ghost use lib.Ieee.{toUnsigned};
-ghost use Rattle.fdlibm.specs.Reduction.{remPio2, aboveOf, belowOf, mediumOf, backOf, firstOf, nextOf, carefulOf, settledOf};
+ghost use lib.ListN.{getD};
+ghost use Rattle.fdlibm.specs.Reduction.{npio2hw, remPio2, aboveOf, belowOf, mediumOf, backOf, firstOf, nextOf, carefulOf, settledOf};
 
 // The quadrant, n modulo 4, and the angle that is left: y0 with its tail y1.
 pub struct Reduction {
@@ -21,43 +23,6 @@ pub struct Difference {
     pub r: f64,
     pub w: f64,
 }
-
-// The high words of n pi/2: 0 for n = 0, then the C's table, for n = 1 to 32.
-const NPIO2_HW: [u64; 33] = [
-    0x0000_0000,
-    0x3ff9_21fb,
-    0x4009_21fb,
-    0x4012_d97c,
-    0x4019_21fb,
-    0x401f_6a7a,
-    0x4022_d97c,
-    0x4025_fdbb,
-    0x4029_21fb,
-    0x402c_463a,
-    0x402f_6a7a,
-    0x4031_475c,
-    0x4032_d97c,
-    0x4034_6b9c,
-    0x4035_fdbb,
-    0x4037_8fdb,
-    0x4039_21fb,
-    0x403a_b41b,
-    0x403c_463a,
-    0x403d_d85a,
-    0x403f_6a7a,
-    0x4040_7e4c,
-    0x4041_475c,
-    0x4042_106c,
-    0x4042_d97c,
-    0x4043_a28c,
-    0x4044_6b9c,
-    0x4045_34ac,
-    0x4045_fdbb,
-    0x4046_c6cb,
-    0x4047_8fdb,
-    0x4048_58eb,
-    0x4049_21fb,
-];
 
 const INVPIO2: f64 = 6.36619772367581382433e-01;
 
@@ -179,14 +144,20 @@ fn careful(d: Difference, n: f64, ix: u64) -> Difference
     next_step(d2, n, PIO2_3, PIO2_3T)
 }
 
+// The high word of n pi/2, the C's table: it is that of n times the first part of pi/2, which the reduction forms anyway.
+fn npio2_hw(n: u64) -> u64
+    requires { ⌜ n < 32 ⌝ }
+    ensures { λ r. ⌜ r ≡ getD npio2hw n 0 ⌝ }
+{
+    number::to_bits(n as f64 * PIO2_1) >> 32
+}
+
 // The quick test: an n below 32 whose n pi/2 has another high word than the angle needs no second step.
 fn settled(d: Difference, whole: u64, n: f64, ix: u64) -> Difference
     ensures { λ r. ⌜ r ≡ settledOf d whole n ix ⌝ }
 {
     if whole < 32 {
-        let at = whole as usize;
-        let hw = NPIO2_HW[at];
-        if ix != hw {
+        if ix != npio2_hw(whole) {
             return d;
         }
     }

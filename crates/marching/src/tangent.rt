@@ -1,4 +1,5 @@
 // `tangent` and `predict` of the Rust.
+use analytic::Derivatives;
 use cramer::Solution2;
 use cramer::Solved2;
 use geometry::Tolerance;
@@ -6,7 +7,7 @@ use geometry::Vector3D;
 use patch::Parameters;
 use patch::Patch;
 ghost use mathlib.Core.Path.{_≡_};
-ghost use Rattle.marching.specs.Tangent.{normalOf, unitCross, tangentOf, shiftOf, predictOf};
+ghost use Rattle.marching.specs.Tangent.{normalOf, unitCross, tangentOf, movedBy, orNothing, predictOf};
 
 pub enum Direction {
     Along(Vector3D),
@@ -47,12 +48,11 @@ pub fn tangent(a: Patch, b: Patch, x: Parameters, tol: Tolerance) -> Direction
     unit_cross(na, nb, tol.angular)
 }
 
-// How far u and v move, to first order, by the displacement d; not at all where the tangent plane degenerates.
-fn shift(patch: Patch, u: f64, v: f64, d: Vector3D) -> Solution2
-    ensures { λ r. ⌜ r ≡ shiftOf patch u v d ⌝ }
+// How far u and v move, to first order, by the displacement d; not at all where the tangent plane degenerates. It takes the derivatives
+// and not the patch, which would be copied at each call.
+fn shift(s: Derivatives, d: Vector3D) -> Solution2
+    ensures { λ r. ⌜ r ≡ orNothing (movedBy s d) ⌝ }
 {
-    let surface = patch.surface;
-    let s = surface.eval_d1(u, v);
     let su = s.u;
     let sv = s.v;
     let uu = su.dot(su);
@@ -69,8 +69,10 @@ fn shift(patch: Patch, u: f64, v: f64, d: Vector3D) -> Solution2
 pub fn predict(a: Patch, b: Patch, x: Parameters, d: Vector3D) -> Parameters
     ensures { λ r. ⌜ r ≡ predictOf a b x d ⌝ }
 {
-    let s = shift(a, x.u1, x.v1, d);
-    let t = shift(b, x.u2, x.v2, d);
+    let sa = a.surface;
+    let sb = b.surface;
+    let s = shift(sa.eval_d1(x.u1, x.v1), d);
+    let t = shift(sb.eval_d1(x.u2, x.v2), d);
     Parameters {
         u1: x.u1 + s.x0,
         v1: x.v1 + s.x1,

@@ -4,11 +4,8 @@ use Rattle.analytic.specs.Analytic.{cylinderDerivatives}
 use Rattle.analytic.proofs.analytic.cylinder_derivatives.Statement.{statement}
 use Rattle.analytic.proofs.analytic.cylinder_derivatives.Tie as tie
 
-cos-requires : tie.Need-cos-requires
-cos-requires c κs = search needs
-
-sin-requires : tie.Need-sin-requires
-sin-requires c κs = search needs
+sin-cos-requires : tie.Need-sin-cos-requires
+sin-cos-requires c κs = search needs
 
 x-direction-requires : tie.Need-x-direction-requires
 x-direction-requires c κs = search needs
@@ -30,7 +27,17 @@ z-direction-requires c κs = search needs
 
 returns : tie.Need-returns
 unfolding cylinderDerivatives
-returns c = rw (c .z-direction .ensures, c .before .add .ensures, c .before .before .scale2 .ensures, c .before .before .before .scale .ensures, c .before .before .before .before .y-direction .ensures, c .before .before .before .before .before .x-direction .ensures, c .before .before .before .before .before .before .sin .ensures, c .before .before .before .before .before .before .before .cos .ensures)
+returns c = rw (c .z-direction .ensures, c .before .add .ensures, c .before .before .scale2 .ensures, c .before .before .before .scale .ensures, c .before .before .before .before .y-direction .ensures, c .before .before .before .before .before .x-direction .ensures, c .before .before .before .before .before .before .sin-cos .ensures .0, c .before .before .before .before .before .before .sin-cos .ensures .1)
 
 pub cylinder-derivatives-spec : {M : Type 1} → statement M
-cylinder-derivatives-spec = tie.close (tie.spec cos-requires sin-requires x-direction-requires y-direction-requires scale-requires scale-requires-2 add-requires z-direction-requires returns)
+cylinder-derivatives-spec =
+    tie.close
+    (tie.spec
+    sin-cos-requires
+    x-direction-requires
+    y-direction-requires
+    scale-requires
+    scale-requires-2
+    add-requires
+    z-direction-requires
+    returns)

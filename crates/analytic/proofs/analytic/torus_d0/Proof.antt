@@ -4,24 +4,18 @@ use Rattle.analytic.specs.Analytic.{torusD0}
 use Rattle.analytic.proofs.analytic.torus_d0.Statement.{statement}
 use Rattle.analytic.proofs.analytic.torus_d0.Tie as tie
 
-cos-requires : tie.Need-cos-requires
-cos-requires c κs = search needs
+sin-cos-requires : tie.Need-sin-cos-requires
+sin-cos-requires c κs = search needs
 
-cos-requires-2 : tie.Need-cos-requires-2
-cos-requires-2 c κs = search needs
-
-sin-requires : tie.Need-sin-requires
-sin-requires c κs = search needs
-
-sin-requires-2 : tie.Need-sin-requires-2
-sin-requires-2 c κs = search needs
+sin-cos-requires-2 : tie.Need-sin-cos-requires-2
+sin-cos-requires-2 c κs = search needs
 
 point-at-requires : tie.Need-point-at-requires
 point-at-requires c κs = search needs
 
 returns : tie.Need-returns
 unfolding torusD0
-returns c = rw (c .point-at .ensures, c .before .sin2 .ensures, c .before .before .sin .ensures, c .before .before .before .cos2 .ensures, c .before .before .before .before .cos .ensures)
+returns c = rw (c .point-at .ensures, c .before .sin-cos2 .ensures .0, c .before .sin-cos2 .ensures .1, c .before .before .before .sin-cos .ensures .0, c .before .before .before .sin-cos .ensures .1)
 
 pub torus-d0-spec : {M : Type 1} → statement M
-torus-d0-spec = tie.close (tie.spec cos-requires cos-requires-2 sin-requires sin-requires-2 point-at-requires returns)
+torus-d0-spec = tie.close (tie.spec sin-cos-requires sin-cos-requires-2 point-at-requires returns)

@@ -1,11 +1,7 @@
 -- `marching::tangent::shift` meets its contract: each way out has its tests, and what it calls its own. Assumes nothing.
 use borrow.Author.Needs.{needs}
-use Rattle.marching.specs.Tangent.{shiftOf}
 use Rattle.marching.proofs.tangent.shift.Statement.{statement}
 use Rattle.marching.proofs.tangent.shift.Tie as tie
-
-eval-d1-requires : tie.Need-eval-d1-requires
-eval-d1-requires c κs = search needs
 
 dot-requires : tie.Need-dot-requires
 dot-requires c κs = search needs
@@ -32,12 +28,10 @@ enum-told : tie.Need-enum-told
 enum-told c = search needs
 
 returns : tie.Need-returns
-unfolding shiftOf
-returns c = rw (← c .before .before .before .before .before .before .before .before .before .before .before .eval-d1 .ensures, ← c .before .before .before .before .before .before .before .before .dot .ensures, ← c .before .before .before .before .before .before .before .dot2 .ensures, ← c .before .before .before .before .before .before .dot3 .ensures, ← c .before .before .before .before .before .dot4 .ensures, ← c .before .before .before .before .dot5 .ensures, ← c .before .before .before .solve-2x2 .ensures, c .before .solved .given .1)
+returns c = rw (← c .before .before .before .before .before .before .before .before .dot .ensures, ← c .before .before .before .before .before .before .before .dot2 .ensures, ← c .before .before .before .before .before .before .dot3 .ensures, ← c .before .before .before .before .before .dot4 .ensures, ← c .before .before .before .before .dot5 .ensures, ← c .before .before .before .solve-2x2 .ensures, c .before .solved .given .1)
 
 returns-2 : tie.Need-returns-2
-unfolding shiftOf
-returns-2 c = rw (← c .before .before .before .before .before .before .before .before .before .before .eval-d1 .ensures, ← c .before .before .before .before .before .before .before .dot .ensures, ← c .before .before .before .before .before .before .dot2 .ensures, ← c .before .before .before .before .before .dot3 .ensures, ← c .before .before .before .before .dot4 .ensures, ← c .before .before .before .dot5 .ensures, ← c .before .before .solve-2x2 .ensures, c .enum-told .given .1)
+returns-2 c = rw (← c .before .before .before .before .before .before .before .dot .ensures, ← c .before .before .before .before .before .before .dot2 .ensures, ← c .before .before .before .before .before .dot3 .ensures, ← c .before .before .before .before .dot4 .ensures, ← c .before .before .before .dot5 .ensures, ← c .before .before .solve-2x2 .ensures, c .enum-told .given .1)
 
 pub shift-spec : {M : Type 1} → statement M
-shift-spec = tie.close (tie.spec eval-d1-requires dot-requires dot-requires-2 dot-requires-3 dot-requires-4 dot-requires-5 solve-2x2-requires enum-known-solved enum-told returns returns-2)
+shift-spec = tie.close (tie.spec dot-requires dot-requires-2 dot-requires-3 dot-requires-4 dot-requires-5 solve-2x2-requires enum-known-solved enum-told returns returns-2)

@@ -1,0 +1,52 @@
+-- `npio2_hw` meets its contract: the products' high words are the C's table, by one computed test of its 32 entries. Assumes nothing.
+use borrow.Author.Needs.{needs}
+use mathlib.Core.Path.{_≡_, refl, sym}
+use mathlib.Core.Bool.{Bool, true, false, not, false≢true}
+use Prim.Native.Nat.{ℕ, _/_, _^_, _<_}
+use native.Mathlib.Omega.{arith}
+use lib.Dec.{T, eqb, eqb→eq, le→leb}
+use lib.IntN.{pos}
+use lib.ListN.{getD}
+use lib.Ieee.{binary64, inFloat, ofInt, toBits}
+use Rattle.loops.specs.Loop.{exits}
+use Rattle.loops.specs.Some.{some}
+use Rattle.loops.proofs.Some.{some-fails}
+use Rattle.number.specs.Operators.{_⊗_}
+use Rattle.fdlibm.specs.Constants.{pio2-1}
+use Rattle.fdlibm.specs.Reduction.{npio2hw}
+use Rattle.fdlibm.proofs.Examples.{computing}
+use Rattle.fdlibm.proofs.reduction.npio2_hw.Statement.{statement}
+use Rattle.fdlibm.proofs.reduction.npio2_hw.Tie as tie
+
+abbrev word : ℕ → ℕ
+word n = toBits binary64 (ofInt binary64 (pos n) ⊗ pio2-1) / 2 ^ 32
+
+abbrev differs : ℕ → Bool
+differs n = not (eqb (word n) (getD npio2hw n 0))
+
+none-differs : some differs 0 32 ≡ false
+unfolding computing exits
+none-differs = refl
+
+holds : (b : Bool) → not b ≡ false → T b
+holds true e = tt
+holds false e = absurd (false≢true (sym e))
+
+entry : (n : ℕ) → n < 32 → word n ≡ getD npio2hw n 0
+entry n h = eqb→eq (word n) (getD npio2hw n 0) (holds (eqb (word n) (getD npio2hw n 0)) (some-fails differs 0 32 none-differs n (omega arith) h))
+
+exact : (n : ℕ) → n < 32 → T (inFloat binary64 (pos n))
+unfolding inFloat
+exact n h = le→leb n (2 ^ 53) (omega arith)
+
+int-to-float-to-bits : tie.Need-int-to-float-to-bits
+int-to-float-to-bits c = exact _ (c .before .pre)
+
+to-bits-requires : tie.Need-to-bits-requires
+to-bits-requires c κs = search needs
+
+returns : tie.Need-returns
+returns c = rw (c .to-bits .ensures) (entry _ (c .before .before .pre))
+
+pub npio2-hw-spec : {M : Type 1} → statement M
+npio2-hw-spec = tie.close (tie.spec int-to-float-to-bits to-bits-requires returns)
