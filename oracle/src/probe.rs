@@ -1,21 +1,15 @@
 //! The proved code, through the crates `probe`, `probe_surface` and `probe_marching`. A Rattle slice passes to C as a pointer and a length.
 
 unsafe extern "C" {
-    fn probe_solve_2x2(input: *const f64, inputs: usize, output: *mut f64, outputs: usize) -> u64;
-    fn probe_solve_3x3(input: *const f64, inputs: usize, output: *mut f64, outputs: usize) -> u64;
-    fn probe_solve_4x4(input: *const f64, inputs: usize, output: *mut f64, outputs: usize) -> u64;
-    fn probe_point(k: u64, n: *const f64, ns: usize, u: f64, v: f64, o: *mut f64, os: usize)
-    -> u64;
-    fn probe_derivatives(
-        k: u64,
-        n: *const f64,
-        ns: usize,
-        u: f64,
-        v: f64,
-        o: *mut f64,
-        os: usize,
+    fn probe_solve(
+        size: u64,
+        input: *const f64,
+        inputs: usize,
+        output: *mut f64,
+        outputs: usize,
     ) -> u64;
-    fn probe_located(
+    fn probe_surface(
+        what: u64,
         kind: u64,
         marks: u64,
         numbers: *const f64,
@@ -25,44 +19,47 @@ unsafe extern "C" {
         output: *mut f64,
         outputs: usize,
     ) -> u64;
+    fn probe_step(
+        what: u64,
+        pin: u64,
+        input: *const f64,
+        inputs: usize,
+        output: *mut f64,
+        outputs: usize,
+    ) -> u64;
 }
 
 /// The answer word for a system of `n` unknowns: the matrix row by row, the right side, tol.
 pub(crate) fn solve(n: usize, input: &[f64], output: &mut [f64]) -> u64 {
-    let call = match n {
-        2 => probe_solve_2x2,
-        3 => probe_solve_3x3,
-        4 => probe_solve_4x4,
-        _ => panic!("no solver for {n} unknowns"),
-    };
+    let (s, inputs) = (input.as_ptr(), input.len());
+    let (t, outputs) = (output.as_mut_ptr(), output.len());
     // SAFETY: each pointer comes with the length of the slice it was taken from, and the callee keeps neither.
-    unsafe {
-        call(
-            input.as_ptr(),
-            input.len(),
-            output.as_mut_ptr(),
-            output.len(),
-        )
-    }
+    unsafe { probe_solve(n as u64, s, inputs, t, outputs) }
 }
 
-/// Kind, numbers with their count, u, v, output with its length.
-type Evaluation = unsafe extern "C" fn(u64, *const f64, usize, f64, f64, *mut f64, usize) -> u64;
-
-fn evaluate(call: Evaluation, kind: u64, n: &[f64], u: f64, v: f64, output: &mut [f64]) -> u64 {
-    let (count, outputs) = (n.len(), output.len());
+/// The answer word of `what`: 0 the point, 1 both first derivatives, 2 the public point.
+fn surface(
+    what: u64,
+    kind: u64,
+    marks: u64,
+    numbers: &[f64],
+    [u, v]: [f64; 2],
+    output: &mut [f64],
+) -> u64 {
+    let (s, count) = (numbers.as_ptr(), numbers.len());
+    let (t, outputs) = (output.as_mut_ptr(), output.len());
     // SAFETY: as in `solve`.
-    unsafe { call(kind, n.as_ptr(), count, u, v, output.as_mut_ptr(), outputs) }
+    unsafe { probe_surface(what, kind, marks, s, count, u, v, t, outputs) }
 }
 
 /// 1 and the point, or 0.
 pub(crate) fn point(kind: u64, numbers: &[f64], u: f64, v: f64, output: &mut [f64]) -> u64 {
-    evaluate(probe_point, kind, numbers, u, v, output)
+    surface(0, kind, 0, numbers, [u, v], output)
 }
 
 /// 1 and both first derivatives, or 0.
 pub(crate) fn derivatives(kind: u64, numbers: &[f64], u: f64, v: f64, output: &mut [f64]) -> u64 {
-    evaluate(probe_derivatives, kind, numbers, u, v, output)
+    surface(1, kind, 0, numbers, [u, v], output)
 }
 
 /// 0 and the public point, or a refusal's number.
@@ -74,40 +71,7 @@ pub(crate) fn located(
     v: f64,
     output: &mut [f64],
 ) -> u64 {
-    let (count, outputs) = (numbers.len(), output.len());
-    // SAFETY: as in `solve`.
-    unsafe {
-        probe_located(
-            kind,
-            marks,
-            numbers.as_ptr(),
-            count,
-            u,
-            v,
-            output.as_mut_ptr(),
-            outputs,
-        )
-    }
-}
-
-unsafe extern "C" {
-    fn probe_tangent(input: *const f64, inputs: usize, output: *mut f64, outputs: usize) -> u64;
-    fn probe_predict(input: *const f64, inputs: usize, output: *mut f64, outputs: usize) -> u64;
-    fn probe_leaving(input: *const f64, inputs: usize, output: *mut f64, outputs: usize) -> u64;
-    fn probe_meet(input: *const f64, inputs: usize, output: *mut f64, outputs: usize) -> u64;
-    fn probe_meet_in_plane(
-        input: *const f64,
-        inputs: usize,
-        output: *mut f64,
-        outputs: usize,
-    ) -> u64;
-    fn probe_land(
-        input: *const f64,
-        inputs: usize,
-        pin: u64,
-        output: *mut f64,
-        outputs: usize,
-    ) -> u64;
+    surface(2, kind, marks, numbers, [u, v], output)
 }
 
 /// A step of the walk.
@@ -121,19 +85,25 @@ pub(crate) enum Step {
     Land(u64),
 }
 
-/// The answer word of a step, through the crate `probe_marching`.
-pub(crate) fn step(step: Step, input: &[f64], output: &mut [f64]) -> u64 {
-    let (s, n) = (input.as_ptr(), input.len());
-    let (t, m) = (output.as_mut_ptr(), output.len());
-    // SAFETY: each pointer comes with the length of the slice it was taken from, and the callee keeps neither.
-    unsafe {
-        match step {
-            Step::Tangent => probe_tangent(s, n, t, m),
-            Step::Predict => probe_predict(s, n, t, m),
-            Step::Leaving => probe_leaving(s, n, t, m),
-            Step::Meet => probe_meet(s, n, t, m),
-            Step::MeetInPlane => probe_meet_in_plane(s, n, t, m),
-            Step::Land(pin) => probe_land(s, n, pin, t, m),
+impl Step {
+    /// Its number, and the parameter pinned; 0 where none is.
+    pub(crate) fn number(self) -> (u64, u64) {
+        match self {
+            Step::Tangent => (0, 0),
+            Step::Predict => (1, 0),
+            Step::Leaving => (2, 0),
+            Step::Meet => (3, 0),
+            Step::MeetInPlane => (4, 0),
+            Step::Land(pin) => (5, pin),
         }
     }
+}
+
+/// The answer word of a step, through the crate `probe_marching`.
+pub(crate) fn step(step: Step, input: &[f64], output: &mut [f64]) -> u64 {
+    let (what, pin) = step.number();
+    let (s, inputs) = (input.as_ptr(), input.len());
+    let (t, outputs) = (output.as_mut_ptr(), output.len());
+    // SAFETY: as in `solve`.
+    unsafe { probe_step(what, pin, s, inputs, t, outputs) }
 }

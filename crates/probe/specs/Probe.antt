@@ -1,7 +1,7 @@
 -- What a probe answers and writes. Definitions only.
 use mathlib.Core.List.{List, [], _∷_}
 use Prim.Native.Nat.{ℕ, zero, suc, _+_}
-use lib.Dec.{ltb}
+use lib.Dec.{eqb, ltb}
 use lib.ListN.{length, getD, set}
 use lib.Ieee.{Float, nan}
 use Rattle.loops.specs.Loop.{pick}
@@ -32,9 +32,9 @@ pub record Probed : Type 0 where
 abbrev pub probed : ℕ → List Float → Probed
 probed w out = record { word = w; output = out }
 
--- "2 for slices too short": fewer than these numbers in, or these out
+-- 9 for slices too short: fewer than these numbers in, or these out
 abbrev pub orShort : ℕ → ℕ → List Float → List Float → Probed → Probed
-orShort least room s t p = pick (ltb (length s) least) (probed 2 t) (pick (ltb (length t) room) (probed 2 t) p)
+orShort least room s t p = pick (ltb (length s) least) (probed 9 t) (pick (ltb (length t) room) (probed 9 t) p)
 
 abbrev pub written2 : Solved2 → List Float → Probed
 written2 (solved2.Solution x) t = probed 1 (set (set t 0 (x .x0)) 1 (x .x1))
@@ -56,3 +56,7 @@ written4 solved4.Singular t = probed 0 t
 
 unfoldable pub probe4Of : List Float → List Float → Probed
 probe4Of s t = orShort 21 4 s t (written4 (solve4Of (rowsAt 4 4 0 s) (rowAt 4 16 s) (getD s 20 nan)) t)
+
+-- by the number of unknowns; 9 where no solver has so many
+unfoldable pub probeOf : ℕ → List Float → List Float → Probed
+probeOf n s t = pick (eqb n 2) (probe2Of s t) (pick (eqb n 3) (probe3Of s t) (pick (eqb n 4) (probe4Of s t) (probed 9 t)))

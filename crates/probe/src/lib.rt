@@ -1,12 +1,12 @@
 //! Functions that only comparisons with outside programs call, exported to C. A slice passes as a pointer and a length.
 //!
-//! Solvers: the input holds the matrix row by row, the right side and tol; a solution goes to the front of the output.
-//! The answer: 1 solved, 0 gave up, 2 a slice too short. Where it is not 1 the output is as it was.
+//! The solvers: the input holds the matrix row by row, the right side and tol; a solution goes to the front of the output.
+//! The answer: 1 solved, 0 gave up, 9 a slice too short. Where it is not 1 the output is as it was.
 ghost use mathlib.Core.Path.{_≡_};
 ghost use Prim.Native.Nat.{_+_, _≤_};
 ghost use lib.ListN.{length};
 ghost use Rattle.fdlibm.specs.Arctangent.{atanOf};
-ghost use Rattle.probe.specs.Probe.{rowAt, probed, probe2Of, probe3Of, probe4Of};
+ghost use Rattle.probe.specs.Probe.{rowAt, probed, probe2Of, probe3Of, probe4Of, probeOf};
 
 fn row2(input: &[f64], at: usize) -> [f64; 2]
     requires { ⌜ at + 2 ≤ length (now input) ⌝ }
@@ -15,15 +15,14 @@ fn row2(input: &[f64], at: usize) -> [f64; 2]
     [input[at], input[at + 1]]
 }
 
-#[no_mangle]
-pub extern "C" fn probe_solve_2x2(input: &[f64], output: &mut [f64]) -> u64
+fn probe_2x2(input: &[f64], output: &mut [f64]) -> u64
     ensures { λ r. ⌜ probed r (now (output .exit)) ≡ probe2Of (now (input .entry)) (now (output .entry)) ⌝ }
 {
     if input.len() < 7 {
-        return 2;
+        return 9;
     }
     if output.len() < 2 {
-        return 2;
+        return 9;
     }
     let r0 = row2(input, 0);
     let r1 = row2(input, 2);
@@ -47,15 +46,14 @@ fn row3(input: &[f64], at: usize) -> [f64; 3]
     [input[at], input[at + 1], input[at + 2]]
 }
 
-#[no_mangle]
-pub extern "C" fn probe_solve_3x3(input: &[f64], output: &mut [f64]) -> u64
+fn probe_3x3(input: &[f64], output: &mut [f64]) -> u64
     ensures { λ r. ⌜ probed r (now (output .exit)) ≡ probe3Of (now (input .entry)) (now (output .entry)) ⌝ }
 {
     if input.len() < 13 {
-        return 2;
+        return 9;
     }
     if output.len() < 3 {
-        return 2;
+        return 9;
     }
     let r0 = row3(input, 0);
     let r1 = row3(input, 3);
@@ -81,15 +79,14 @@ fn row4(input: &[f64], at: usize) -> [f64; 4]
     [input[at], input[at + 1], input[at + 2], input[at + 3]]
 }
 
-#[no_mangle]
-pub extern "C" fn probe_solve_4x4(input: &[f64], output: &mut [f64]) -> u64
+fn probe_4x4(input: &[f64], output: &mut [f64]) -> u64
     ensures { λ r. ⌜ probed r (now (output .exit)) ≡ probe4Of (now (input .entry)) (now (output .entry)) ⌝ }
 {
     if input.len() < 21 {
-        return 2;
+        return 9;
     }
     if output.len() < 4 {
-        return 2;
+        return 9;
     }
     let r0 = row4(input, 0);
     let r1 = row4(input, 4);
@@ -108,6 +105,23 @@ pub extern "C" fn probe_solve_4x4(input: &[f64], output: &mut [f64]) -> u64
         }
         solve::Solved4::Singular => 0,
     }
+}
+
+// The solver of so many unknowns: 2, 3 or 4. Any other number is answered like a slice too short.
+#[no_mangle]
+pub extern "C" fn probe_solve(size: u64, input: &[f64], output: &mut [f64]) -> u64
+    ensures { λ r. ⌜ probed r (now (output .exit)) ≡ probeOf size (now (input .entry)) (now (output .entry)) ⌝ }
+{
+    if size == 2 {
+        return probe_2x2(input, output);
+    }
+    if size == 3 {
+        return probe_3x3(input, output);
+    }
+    if size == 4 {
+        return probe_4x4(input, output);
+    }
+    9
 }
 
 // The arc tangent.

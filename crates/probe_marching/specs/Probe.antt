@@ -1,11 +1,11 @@
 -- What the probes of the walk's steps answer and write. Definitions only.
 use mathlib.Core.List.{List}
 use Prim.Native.Nat.{ℕ}
-use lib.Dec.{ltb}
-use lib.ListN.{length, getD, set}
+use lib.Dec.{eqb}
+use lib.ListN.{getD, set}
 use lib.Ieee.{Float, nan}
 use Rattle.loops.specs.Loop.{pick}
-use Rattle.probe.specs.Probe.{Probed, probed}
+use Rattle.probe.specs.Probe.{Probed, probed, orShort}
 use Rattle.probe_call.specs.Call.{pointFrom, vectorFrom, parametersFrom, callFrom, putVector, putParameters}
 use Rattle.probe_call.specs.declared.Call.{Call}
 use Rattle.patch.specs.declared.patch.Parameters.{Parameters}
@@ -18,10 +18,6 @@ use Rattle.meeting.specs.declared.newton.Met.the-variants as met
 use Rattle.marching.specs.Tangent.{tangentOf, predictOf}
 use Rattle.marching.specs.Leaving.{leavingOf}
 use Rattle.meeting.specs.Newton.{meetOf, meetInPlaneOf, landOf}
-
--- 9 for fewer than 54 numbers in or 4 out
-abbrev pub orShort : List Float → List Float → Probed → Probed
-orShort s t p = pick (ltb (length s) 54) (probed 9 t) (pick (ltb (length t) 4) (probed 9 t) p)
 
 abbrev pub writtenDirection : Direction → List Float → Probed
 writtenDirection (direction.Along d) t = probed 1 (putVector t d)
@@ -36,20 +32,31 @@ writtenMet (met.At y) t = probed 1 (putParameters t y)
 writtenMet met.Nothing t = probed 0 t
 
 unfoldable pub probeTangent : List Float → List Float → Probed
-probeTangent s t = orShort s t (writtenDirection (tangentOf (callFrom s .a) (callFrom s .b) (callFrom s .x) (callFrom s .tol)) t)
+probeTangent s t = orShort 54 4 s t (writtenDirection (tangentOf (callFrom s .a) (callFrom s .b) (callFrom s .x) (callFrom s .tol)) t)
 
 unfoldable pub probePredict : List Float → List Float → Probed
-probePredict s t = orShort s t (probed 1 (putParameters t (predictOf (callFrom s .a) (callFrom s .b) (callFrom s .x) (vectorFrom s 48))))
+probePredict s t = orShort 54 4 s t (probed 1 (putParameters t (predictOf (callFrom s .a) (callFrom s .b) (callFrom s .x) (vectorFrom s 48))))
 
 unfoldable pub probeLeaving : List Float → List Float → Probed
-probeLeaving s t = orShort s t (writtenExit (leavingOf (callFrom s .a) (callFrom s .b) (callFrom s .x) (parametersFrom s 48)) t)
+probeLeaving s t = orShort 54 4 s t (writtenExit (leavingOf (callFrom s .a) (callFrom s .b) (callFrom s .x) (parametersFrom s 48)) t)
 
 unfoldable pub probeMeet : List Float → List Float → Probed
-probeMeet s t = orShort s t (writtenMet (meetOf (callFrom s .a) (callFrom s .b) (callFrom s .x) (callFrom s .tol)) t)
+probeMeet s t = orShort 54 4 s t (writtenMet (meetOf (callFrom s .a) (callFrom s .b) (callFrom s .x) (callFrom s .tol)) t)
 
 unfoldable pub probeMeetInPlane : List Float → List Float → Probed
 probeMeetInPlane s t =
-    orShort s t (writtenMet (meetInPlaneOf (callFrom s .a) (callFrom s .b) (callFrom s .x) (pointFrom s 48) (vectorFrom s 51) (callFrom s .tol)) t)
+    orShort 54 4 s t (writtenMet (meetInPlaneOf (callFrom s .a) (callFrom s .b) (callFrom s .x) (pointFrom s 48) (vectorFrom s 51) (callFrom s .tol)) t)
 
 unfoldable pub probeLand : List Float → ℕ → List Float → Probed
-probeLand s pin t = orShort s t (writtenMet (landOf (callFrom s .a) (callFrom s .b) (callFrom s .x) pin (getD s 48 nan) (callFrom s .tol)) t)
+probeLand s pin t = orShort 54 4 s t (writtenMet (landOf (callFrom s .a) (callFrom s .b) (callFrom s .x) pin (getD s 48 nan) (callFrom s .tol)) t)
+
+-- by the step's number; 9 for any other
+unfoldable pub probeStep : ℕ → ℕ → List Float → List Float → Probed
+probeStep what pin s t =
+    pick (eqb what 0) (probeTangent s t)
+    (pick (eqb what 1) (probePredict s t)
+    (pick (eqb what 2) (probeLeaving s t)
+    (pick (eqb what 3) (probeMeet s t)
+    (pick (eqb what 4) (probeMeetInPlane s t)
+    (pick (eqb what 5) (probeLand s pin t)
+    (probed 9 t))))))

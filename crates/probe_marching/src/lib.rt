@@ -13,11 +13,10 @@ use probe_call::read;
 use probe_call::vector;
 ghost use mathlib.Core.Path.{_≡_};
 ghost use Rattle.probe.specs.Probe.{probed};
-ghost use Rattle.probe_marching.specs.Probe.{probeTangent, probePredict, probeLeaving, probeMeet, probeMeetInPlane, probeLand};
+ghost use Rattle.probe_marching.specs.Probe.{probeTangent, probePredict, probeLeaving, probeMeet, probeMeetInPlane, probeLand, probeStep};
 
 // 1 and the direction, or 0.
-#[no_mangle]
-pub extern "C" fn probe_tangent(input: &[f64], output: &mut [f64]) -> u64
+fn probe_tangent(input: &[f64], output: &mut [f64]) -> u64
     ensures { λ r. ⌜ probed r (now (output .exit)) ≡ probeTangent (now (input .entry)) (now (output .entry)) ⌝ }
 {
     if input.len() < 54 {
@@ -38,8 +37,7 @@ pub extern "C" fn probe_tangent(input: &[f64], output: &mut [f64]) -> u64
 }
 
 // 1 and the parameters moved by the displacement, the numbers from 48 on.
-#[no_mangle]
-pub extern "C" fn probe_predict(input: &[f64], output: &mut [f64]) -> u64
+fn probe_predict(input: &[f64], output: &mut [f64]) -> u64
     ensures { λ r. ⌜ probed r (now (output .exit)) ≡ probePredict (now (input .entry)) (now (output .entry)) ⌝ }
 {
     if input.len() < 54 {
@@ -56,8 +54,7 @@ pub extern "C" fn probe_predict(input: &[f64], output: &mut [f64]) -> u64
 }
 
 // The index and the bound, or 4 where the move to the parameters from 48 on leaves no window.
-#[no_mangle]
-pub extern "C" fn probe_leaving(input: &[f64], output: &mut [f64]) -> u64
+fn probe_leaving(input: &[f64], output: &mut [f64]) -> u64
     ensures { λ r. ⌜ probed r (now (output .exit)) ≡ probeLeaving (now (input .entry)) (now (output .entry)) ⌝ }
 {
     if input.len() < 54 {
@@ -79,8 +76,7 @@ pub extern "C" fn probe_leaving(input: &[f64], output: &mut [f64]) -> u64
 }
 
 // 1 and the meeting, or 0.
-#[no_mangle]
-pub extern "C" fn probe_meet(input: &[f64], output: &mut [f64]) -> u64
+fn probe_meet(input: &[f64], output: &mut [f64]) -> u64
     ensures { λ r. ⌜ probed r (now (output .exit)) ≡ probeMeet (now (input .entry)) (now (output .entry)) ⌝ }
 {
     if input.len() < 54 {
@@ -101,8 +97,7 @@ pub extern "C" fn probe_meet(input: &[f64], output: &mut [f64]) -> u64
 }
 
 // 1 and the meeting in the plane through the point from 48 on with the normal from 51 on, or 0.
-#[no_mangle]
-pub extern "C" fn probe_meet_in_plane(input: &[f64], output: &mut [f64]) -> u64
+fn probe_meet_in_plane(input: &[f64], output: &mut [f64]) -> u64
     ensures { λ r. ⌜ probed r (now (output .exit)) ≡ probeMeetInPlane (now (input .entry)) (now (output .entry)) ⌝ }
 {
     if input.len() < 54 {
@@ -125,8 +120,7 @@ pub extern "C" fn probe_meet_in_plane(input: &[f64], output: &mut [f64]) -> u64
 }
 
 // 1 and the meeting with the parameter `pin` at the number 48, or 0.
-#[no_mangle]
-pub extern "C" fn probe_land(input: &[f64], pin: u64, output: &mut [f64]) -> u64
+fn probe_land(input: &[f64], pin: u64, output: &mut [f64]) -> u64
     ensures { λ r. ⌜ probed r (now (output .exit)) ≡ probeLand (now (input .entry)) pin (now (output .entry)) ⌝ }
 {
     if input.len() < 54 {
@@ -144,4 +138,30 @@ pub extern "C" fn probe_land(input: &[f64], pin: u64, output: &mut [f64]) -> u64
         }
         Met::Nothing => 0,
     }
+}
+
+// The step of this number; `pin` is for `land` alone. Any other number is answered like a slice too short.
+#[no_mangle]
+pub extern "C" fn probe_step(what: u64, pin: u64, input: &[f64], output: &mut [f64]) -> u64
+    ensures { λ r. ⌜ probed r (now (output .exit)) ≡ probeStep what pin (now (input .entry)) (now (output .entry)) ⌝ }
+{
+    if what == 0 {
+        return probe_tangent(input, output);
+    }
+    if what == 1 {
+        return probe_predict(input, output);
+    }
+    if what == 2 {
+        return probe_leaving(input, output);
+    }
+    if what == 3 {
+        return probe_meet(input, output);
+    }
+    if what == 4 {
+        return probe_meet_in_plane(input, output);
+    }
+    if what == 5 {
+        return probe_land(input, pin, output);
+    }
+    9
 }

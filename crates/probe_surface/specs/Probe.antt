@@ -78,3 +78,11 @@ probeLocated kind marks s u v t =
     (pick (ltb (length s) 18) (probed 8 t)
     (pick (ltb (length t) 3) (probed 8 t)
     (writtenLocated (locatedOf (patchFrom kind marks s) u v) t))))
+
+-- by what is asked: 0 the point, 1 the derivatives, 2 the public point; 19 for anything else
+unfoldable pub probeSurface : ℕ → ℕ → ℕ → List Float → Float → Float → List Float → Probed
+probeSurface what kind marks s u v t =
+    pick (eqb what 0) (probePoint kind s u v t)
+    (pick (eqb what 1) (probeDerivatives kind s u v t)
+    (pick (eqb what 2) (probeLocated kind marks s u v t)
+    (probed 19 t)))

@@ -11,7 +11,7 @@ ghost use mathlib.Core.Path.{_≡_};
 ghost use Prim.Native.Nat.{_+_, _≤_};
 ghost use lib.ListN.{length};
 ghost use Rattle.probe.specs.Probe.{probed};
-ghost use Rattle.probe_surface.specs.Probe.{surfaceFrom, marked, windowFrom, patchFrom, put3, probePoint, probeDerivatives, probeLocated};
+ghost use Rattle.probe_surface.specs.Probe.{surfaceFrom, marked, windowFrom, patchFrom, put3, probePoint, probeDerivatives, probeLocated, probeSurface};
 
 fn surface(kind: u64, numbers: &[f64]) -> Surface
     requires { ⌜ 14 ≤ length (now numbers) ⌝ }
@@ -74,8 +74,7 @@ fn put(output: &mut [f64], at: usize, x: f64, y: f64, z: f64)
 }
 
 // 1 and the point's coordinates, or 0 for a kind above 4 or a slice too short.
-#[no_mangle]
-pub extern "C" fn probe_point(kind: u64, numbers: &[f64], u: f64, v: f64, output: &mut [f64]) -> u64
+fn probe_point(kind: u64, numbers: &[f64], u: f64, v: f64, output: &mut [f64]) -> u64
     ensures { λ r. ⌜ probed r (now (output .exit)) ≡ probePoint kind (now (numbers .entry)) u v (now (output .entry)) ⌝ }
 {
     if 4 < kind {
@@ -93,14 +92,7 @@ pub extern "C" fn probe_point(kind: u64, numbers: &[f64], u: f64, v: f64, output
 }
 
 // 1 and the coordinates of the derivative by u, then of that by v, or 0 for a kind above 4 or a slice too short.
-#[no_mangle]
-pub extern "C" fn probe_derivatives(
-    kind: u64,
-    numbers: &[f64],
-    u: f64,
-    v: f64,
-    output: &mut [f64],
-) -> u64
+fn probe_derivatives(kind: u64, numbers: &[f64], u: f64, v: f64, output: &mut [f64]) -> u64
     ensures { λ r. ⌜ probed r (now (output .exit)) ≡ probeDerivatives kind (now (numbers .entry)) u v (now (output .entry)) ⌝ }
 {
     if 4 < kind {
@@ -121,15 +113,7 @@ pub extern "C" fn probe_derivatives(
 }
 
 // 0 and the public point's coordinates, or its refusal's number; 19 for a kind above 4 or marks above 3, 8 for a slice too short.
-#[no_mangle]
-pub extern "C" fn probe_located(
-    kind: u64,
-    marks: u64,
-    numbers: &[f64],
-    u: f64,
-    v: f64,
-    output: &mut [f64],
-) -> u64
+fn probe_located(kind: u64, marks: u64, numbers: &[f64], u: f64, v: f64, output: &mut [f64]) -> u64
     ensures { λ r. ⌜ probed r (now (output .exit)) ≡ probeLocated kind marks (now (numbers .entry)) u v (now (output .entry)) ⌝ }
 {
     if 4 < kind {
@@ -152,4 +136,29 @@ pub extern "C" fn probe_located(
             0
         }
     }
+}
+
+// What is asked: 0 the point, 1 both first derivatives, 2 the public point, which alone looks at the marks. Anything else is answered 19.
+#[no_mangle]
+pub extern "C" fn probe_surface(
+    what: u64,
+    kind: u64,
+    marks: u64,
+    numbers: &[f64],
+    u: f64,
+    v: f64,
+    output: &mut [f64],
+) -> u64
+    ensures { λ r. ⌜ probed r (now (output .exit)) ≡ probeSurface what kind marks (now (numbers .entry)) u v (now (output .entry)) ⌝ }
+{
+    if what == 0 {
+        return probe_point(kind, numbers, u, v, output);
+    }
+    if what == 1 {
+        return probe_derivatives(kind, numbers, u, v, output);
+    }
+    if what == 2 {
+        return probe_located(kind, marks, numbers, u, v, output);
+    }
+    19
 }

@@ -14,29 +14,6 @@ fn input(record: &[u8]) -> [f64; 54] {
     numbers
 }
 
-// The step of this number. A number that no step has is an answer that no list holds.
-fn stepped(step: u64, pin: u64, input: [f64; 54], output: &mut [f64]) -> u64 {
-    if step == 0 {
-        return probe_marching::probe_tangent(&input, output);
-    }
-    if step == 1 {
-        return probe_marching::probe_predict(&input, output);
-    }
-    if step == 2 {
-        return probe_marching::probe_leaving(&input, output);
-    }
-    if step == 3 {
-        return probe_marching::probe_meet(&input, output);
-    }
-    if step == 4 {
-        return probe_marching::probe_meet_in_plane(&input, output);
-    }
-    if step == 5 {
-        return probe_marching::probe_land(&input, pin, output);
-    }
-    9
-}
-
 // Whether the output is the recorded one, in bits.
 fn recorded(record: &[u8], output: [f64; 4]) -> bool {
     for k in 0..4usize {
@@ -51,7 +28,8 @@ fn same(record: &[u8]) -> bool {
     let mut output = [0.0; 4];
     let step = replay::word(record, 0);
     let pin = replay::word(record, 8);
-    let said = stepped(step, pin, input(record), &mut output);
+    let numbers = input(record);
+    let said = probe_marching::probe_step(step, pin, &numbers, &mut output);
     if said != replay::word(record, 448) {
         return false;
     }

@@ -14,20 +14,6 @@ fn input(record: &[u8]) -> [f64; 21] {
     numbers
 }
 
-// The solver of so many unknowns. A size that no solver has is an answer that no list holds.
-fn solved(unknowns: u64, input: [f64; 21], output: &mut [f64]) -> u64 {
-    if unknowns == 2 {
-        return probe::probe_solve_2x2(&input, output);
-    }
-    if unknowns == 3 {
-        return probe::probe_solve_3x3(&input, output);
-    }
-    if unknowns == 4 {
-        return probe::probe_solve_4x4(&input, output);
-    }
-    9
-}
-
 // Whether the output is the recorded one, in bits.
 fn recorded(record: &[u8], output: [f64; 4]) -> bool {
     for k in 0..4usize {
@@ -40,7 +26,8 @@ fn recorded(record: &[u8], output: [f64; 4]) -> bool {
 
 fn same(record: &[u8]) -> bool {
     let mut output = [0.0; 4];
-    let said = solved(replay::word(record, 0), input(record), &mut output);
+    let numbers = input(record);
+    let said = probe::probe_solve(replay::word(record, 0), &numbers, &mut output);
     if said != replay::word(record, 176) {
         return false;
     }

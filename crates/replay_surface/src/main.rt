@@ -14,25 +14,6 @@ fn input(record: &[u8]) -> [f64; 18] {
     numbers
 }
 
-// What is asked of the patch. Anything else is an answer that no list holds.
-fn asked(record: &[u8], numbers: [f64; 18], output: &mut [f64]) -> u64 {
-    let what = replay::word(record, 0);
-    let kind = replay::word(record, 8);
-    let u = number::from_bits(replay::word(record, 168));
-    let v = number::from_bits(replay::word(record, 176));
-    if what == 0 {
-        return probe_surface::probe_point(kind, &numbers, u, v, output);
-    }
-    if what == 1 {
-        return probe_surface::probe_derivatives(kind, &numbers, u, v, output);
-    }
-    if what == 2 {
-        let marks = replay::word(record, 16);
-        return probe_surface::probe_located(kind, marks, &numbers, u, v, output);
-    }
-    99
-}
-
 // Whether the output is the recorded one, in bits.
 fn recorded(record: &[u8], output: [f64; 6]) -> bool {
     for k in 0..6usize {
@@ -45,7 +26,13 @@ fn recorded(record: &[u8], output: [f64; 6]) -> bool {
 
 fn same(record: &[u8]) -> bool {
     let mut output = [0.0; 6];
-    let said = asked(record, input(record), &mut output);
+    let what = replay::word(record, 0);
+    let kind = replay::word(record, 8);
+    let marks = replay::word(record, 16);
+    let u = number::from_bits(replay::word(record, 168));
+    let v = number::from_bits(replay::word(record, 176));
+    let numbers = input(record);
+    let said = probe_surface::probe_surface(what, kind, marks, &numbers, u, v, &mut output);
     if said != replay::word(record, 184) {
         return false;
     }

@@ -674,10 +674,7 @@ pub fn record(seed: u64, count: u64) -> io::Result<()> {
             let c = call(&mut r, i, step);
             let (said, numbers) = answer(&c, Windows::Asked);
             let mut words = [0u64; RECORD];
-            words[0] = step as u64;
-            if let Step::Land(pin) = c.step {
-                words[1] = pin;
-            }
+            (words[0], words[1]) = c.step.number();
             for (k, x) in input(&c).iter().enumerate() {
                 words[2 + k] = word(*x);
             }

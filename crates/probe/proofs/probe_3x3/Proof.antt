@@ -1,11 +1,11 @@
--- `probe::probe_solve_3x3` meets its contract: each way out has its tests. Assumes nothing.
+-- `probe::probe_3x3` meets its contract: each way out has its tests. Assumes nothing.
 use lib.ListN.{length-set}
 use borrow.Author.Tests.{lt-ltb, le-ltb}
 use borrow.Author.Needs.{needs}
 use native.Mathlib.Omega.{arith}
 use Rattle.probe.specs.Probe.{probe3Of}
-use Rattle.probe.proofs.probe_solve_3x3.Statement.{statement}
-use Rattle.probe.proofs.probe_solve_3x3.Tie as tie
+use Rattle.probe.proofs.probe_3x3.Statement.{statement}
+use Rattle.probe.proofs.probe_3x3.Tie as tie
 
 returns : tie.Need-returns
 unfolding probe3Of
@@ -67,8 +67,8 @@ returns-4 c =
     let e = b .before .before .before .before in
     rw (le-ltb _ _ (e .before .if1 .left), le-ltb _ _ (e .if2 .left), ← b .before .before .before .row3 .ensures, ← b .before .before .row32 .ensures, ← b .before .row33 .ensures, ← b .row34 .ensures, ← q .solve-3x3 .ensures, c .enum-told .given .1)
 
-pub probe-solve-3x3-spec : {M : Type 1} → statement M
-probe-solve-3x3-spec =
+pub probe-3x3-spec : {M : Type 1} → statement M
+probe-3x3-spec =
     tie.close
     (tie.spec
     returns

@@ -1,11 +1,11 @@
--- `probe::probe_solve_2x2` meets its contract: each way out has its tests. Assumes nothing.
+-- `probe::probe_2x2` meets its contract: each way out has its tests. Assumes nothing.
 use lib.ListN.{length-set}
 use borrow.Author.Tests.{lt-ltb, le-ltb}
 use borrow.Author.Needs.{needs}
 use native.Mathlib.Omega.{arith}
 use Rattle.probe.specs.Probe.{probe2Of}
-use Rattle.probe.proofs.probe_solve_2x2.Statement.{statement}
-use Rattle.probe.proofs.probe_solve_2x2.Tie as tie
+use Rattle.probe.proofs.probe_2x2.Statement.{statement}
+use Rattle.probe.proofs.probe_2x2.Tie as tie
 
 returns : tie.Need-returns
 unfolding probe2Of
@@ -61,8 +61,8 @@ returns-4 c =
     let e = b .before .before .before in
     rw (le-ltb _ _ (e .before .if1 .left), le-ltb _ _ (e .if2 .left), ← b .before .before .row2 .ensures, ← b .before .row22 .ensures, ← b .row23 .ensures, ← q .solve-2x2 .ensures, c .enum-told .given .1)
 
-pub probe-solve-2x2-spec : {M : Type 1} → statement M
-probe-solve-2x2-spec =
+pub probe-2x2-spec : {M : Type 1} → statement M
+probe-2x2-spec =
     tie.close
     (tie.spec
     returns

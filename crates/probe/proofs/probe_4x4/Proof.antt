@@ -1,11 +1,11 @@
--- `probe::probe_solve_4x4` meets its contract: each way out has its tests. Assumes nothing.
+-- `probe::probe_4x4` meets its contract: each way out has its tests. Assumes nothing.
 use lib.ListN.{length-set}
 use borrow.Author.Tests.{lt-ltb, le-ltb}
 use borrow.Author.Needs.{needs}
 use native.Mathlib.Omega.{arith}
 use Rattle.probe.specs.Probe.{probe4Of}
-use Rattle.probe.proofs.probe_solve_4x4.Statement.{statement}
-use Rattle.probe.proofs.probe_solve_4x4.Tie as tie
+use Rattle.probe.proofs.probe_4x4.Statement.{statement}
+use Rattle.probe.proofs.probe_4x4.Tie as tie
 
 returns : tie.Need-returns
 unfolding probe4Of
@@ -73,8 +73,8 @@ returns-4 c =
     let e = b .before .before .before .before .before in
     rw (le-ltb _ _ (e .before .if1 .left), le-ltb _ _ (e .if2 .left), ← b .before .before .before .before .row4 .ensures, ← b .before .before .before .row42 .ensures, ← b .before .before .row43 .ensures, ← b .before .row44 .ensures, ← b .row45 .ensures, ← q .solve-4x4 .ensures, c .enum-told .given .1)
 
-pub probe-solve-4x4-spec : {M : Type 1} → statement M
-probe-solve-4x4-spec =
+pub probe-4x4-spec : {M : Type 1} → statement M
+probe-4x4-spec =
     tie.close
     (tie.spec
     returns
