@@ -21,10 +21,11 @@ use Rattle.patch.specs.declared.patch.Fitness.the-variants.{Fit}
 use Rattle.patch.specs.Located.{pointA, pointB}
 use Rattle.patch.specs.Patch.{fitnessOf, insideOf}
 
--- the coordinates of point i, and the parameters beside them
+-- the coordinates of point i: "x, y, z"
 abbrev pub pointAt : List Float → ℕ → Point3D
 pointAt l i = record { x = rowAt l i .x; y = rowAt l i .y; z = rowAt l i .z }
 
+-- the parameters beside them: "then u, v on A and u, v on B"
 abbrev pub parametersAt : List Float → ℕ → Parameters
 parametersAt l i = record { u1 = rowAt l i .u1; v1 = rowAt l i .v1; u2 = rowAt l i .u2; v2 = rowAt l i .v2 }
 

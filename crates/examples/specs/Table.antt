@@ -132,6 +132,7 @@ abbrev pub lent : ℕ → (ℕ → Float) → List Float
 lent nat.zero p = []
 lent (nat.suc k) p = p k ∷ lent k p
 
+-- "The (P) rows form one table"
 pub record Table : Type 0 where
   -- "Plane, unit frame, (3, -2): point (3, -2, 0)."
   pub row1 : evalPoint (Plane unitFrame) three -two ≡ pointOf three -two zero
