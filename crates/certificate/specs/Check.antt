@@ -10,7 +10,7 @@ use Rattle.number.specs.Operators.{_≤?_}
 use Rattle.number.specs.Helpers.{sameBits}
 use Rattle.groups.specs.Groups.{width, holdsOf}
 use Rattle.groups.specs.declared.row.Row.{Row}
-use Rattle.groups.specs.Row.{rowOf}
+use Rattle.groups.specs.Row.{rowOf, pointAt}
 use Rattle.refusal.specs.declared.Refusal.{Refusal}
 use Rattle.refusal.specs.declared.Refusal.the-variants as refusal
 use Rattle.refusal.specs.Refusal as number
@@ -26,7 +26,7 @@ use Rattle.patch.specs.Located.{pointA, pointB}
 use Rattle.patch.specs.Patch.{fitnessOf, insideOf}
 use Rattle.certificate.specs.declared.check.Checked.{Checked}
 use Rattle.certificate.specs.declared.check.Checked.the-variants.{Passed, Refused}
-use Rattle.certificate.specs.Passes.{pointAt, parametersAt, closingChord}
+use Rattle.certificate.specs.Passes.{parametersAt, closingChord}
 
 -- the paper's number for each case (0: passed)
 abbrev pub refusalOf : Checked → ℕ

@@ -8,6 +8,8 @@ use lib.IntN.{negsuc}
 use lib.ListN.{replicate}
 use lib.Ieee.{Float, fin, binary64, toBits}
 use Rattle.number.specs.Operators.{bits}
+use Rattle.number.specs.Helpers.{one, half}
+use Rattle.groups.specs.Row.{zero}
 use Rattle.geometry.specs.declared.tolerance.Tolerance.{Tolerance}
 use Rattle.geometry.specs.Tolerance.{defaultTolerance}
 use Rattle.analytic.specs.declared.surface.Surface.{Surface}
@@ -31,13 +33,7 @@ use Rattle.cramer.specs.declared.Solved2.the-variants as solved2
 use Rattle.solve.specs.declared.Solved3.the-variants as solved3
 use Rattle.walk.specs.Trace.{traceOf, refusalOf}
 
--- the numbers of the rows
-abbrev pub zero : Float
-zero = bits 0
-
-abbrev pub one : Float
-one = bits 0x3ff0_0000_0000_0000
-
+-- the other numbers of the rows
 abbrev pub -one : Float
 -one = bits 0xbff0_0000_0000_0000
 
@@ -56,7 +52,13 @@ four = bits 0x4010_0000_0000_0000
 abbrev pub five : Float
 five = bits 0x4014_0000_0000_0000
 
--- 1e-12 and 4e-12
+-- 1.5 and -1.5, 1e-12 and 4e-12
+abbrev pub threeHalves : Float
+threeHalves = bits 0x3ff8_0000_0000_0000
+
+abbrev pub -threeHalves : Float
+-threeHalves = bits 0xbff8_0000_0000_0000
+
 abbrev pub 1e-12 : Float
 1e-12 = bits 0x3d71_9799_812d_ea11
 
@@ -70,16 +72,6 @@ over2 e = fin false 1 (negsuc (e - 1))
 -- the matrix with this diagonal
 abbrev pub diagonal : Float → Float → Float → List (List Float)
 diagonal a b c = (a ∷ zero ∷ zero ∷ []) ∷ (zero ∷ b ∷ zero ∷ []) ∷ (zero ∷ zero ∷ c ∷ []) ∷ []
-
--- 0.5 and 1.5, and -1.5
-abbrev pub half : Float
-half = bits 0x3fe0_0000_0000_0000
-
-abbrev pub threeHalves : Float
-threeHalves = bits 0x3ff8_0000_0000_0000
-
-abbrev pub minusThreeHalves : Float
-minusThreeHalves = bits 0xbff8_0000_0000_0000
 
 -- "Windows all 0 to 1, no marks", whatever the surface
 abbrev pub unitPatch : Surface → Patch
@@ -105,7 +97,7 @@ fourPoints p =
 
 -- "confusion 2^-20, angular 1e-12", whatever the parametric tolerance
 abbrev pub confusion20 : Float → Tolerance
-confusion20 t = record { confusion = bits 0x3eb0_0000_0000_0000; angular = bits 0x3d71_9799_812d_ea11; parametric = t }
+confusion20 t = record { confusion = bits 0x3eb0_0000_0000_0000; angular = 1e-12; parametric = t }
 
 -- "the box that is the point"
 abbrev pub boxAt : Float → Float → Float → Aabb
@@ -116,8 +108,8 @@ abbrev pub unitFrame : Frame3D
 unitFrame = record { origin = pointOf zero zero zero; x = vectorOf one zero zero; y = vectorOf zero one zero; z = vectorOf zero zero one }
 
 -- the unit frame with its origin moved to this z
-abbrev pub frameAt : Float → Frame3D
-frameAt z = record { origin = pointOf zero zero z; x = vectorOf one zero zero; y = vectorOf zero one zero; z = vectorOf zero zero one }
+abbrev pub movedTo : Float → Frame3D
+movedTo z = record { origin = pointOf zero zero z; x = unitFrame .x; y = unitFrame .y; z = unitFrame .z }
 
 -- "plane, windows -1 to 1, no marks"
 abbrev pub squarePlane : Frame3D → Patch
@@ -156,7 +148,7 @@ pub record Table : Type 0 where
       ((a b : Surface)
       → leavingOf (unitPatch a) (unitPatch b) (parameters half half half half) (parameters threeHalves half threeHalves half) ≡ exit.At 0 one)
       × ((a b : Surface)
-      → leavingOf (unitPatch a) (unitPatch b) (parameters half half half half) (parameters threeHalves half half minusThreeHalves)
+      → leavingOf (unitPatch a) (unitPatch b) (parameters half half half half) (parameters threeHalves half half -threeHalves)
       ≡ exit.At 3 zero)
   -- "Points (0,0,0), (0.1,0,0), (0.2,0,0), (0.3,0,0), confusion 2^-20, angular 1e-12: the box that is the point (0.15, 0.005, 0) is
   -- crossed, (0.15, 0.01, 0) is not."
@@ -172,5 +164,5 @@ pub record Table : Type 0 where
       → (refusalOf (traceOf (squarePlane unitFrame) (squarePlane unitFrame) defaultTolerance (parameters zero zero zero zero) 2 (lent 35 p) .answer) ≡ 10)
       × (traceOf (squarePlane unitFrame) (squarePlane unitFrame) defaultTolerance (parameters zero zero zero zero) 2 (lent 35 p) .buffer ≡ replicate 35 zero))
       × ((p : ℕ → Float)
-      → (refusalOf (traceOf (squarePlane unitFrame) (squarePlane (frameAt one)) defaultTolerance (parameters zero zero zero zero) 2 (lent 35 p) .answer) ≡ 9)
-      × (traceOf (squarePlane unitFrame) (squarePlane (frameAt one)) defaultTolerance (parameters zero zero zero zero) 2 (lent 35 p) .buffer ≡ replicate 35 zero))
+      → (refusalOf (traceOf (squarePlane unitFrame) (squarePlane (movedTo one)) defaultTolerance (parameters zero zero zero zero) 2 (lent 35 p) .answer) ≡ 9)
+      × (traceOf (squarePlane unitFrame) (squarePlane (movedTo one)) defaultTolerance (parameters zero zero zero zero) 2 (lent 35 p) .buffer ≡ replicate 35 zero))

@@ -6,6 +6,7 @@ use lib.ListN.{length, getD}
 use lib.Ieee as Ieee
 use lib.Ieee.{Float, nan, binary64}
 use Rattle.loops.specs.Loop.{pick}
+use Rattle.geometry.specs.declared.point.Point3D.{Point3D}
 use Rattle.groups.specs.declared.row.Row.{Row}
 use Rattle.groups.specs.Groups.{width}
 
@@ -28,6 +29,10 @@ rowFrom l at = record {
 -- the numbers of point i, where the list has them
 abbrev pub rowAt : List Float → ℕ → Row
 rowAt l i = rowFrom l (width * i)
+
+-- its coordinates: "x, y, z" come first
+abbrev pub pointAt : List Float → ℕ → Point3D
+pointAt l i = record { x = rowAt l i .x; y = rowAt l i .y; z = rowAt l i .z }
 
 -- positive zero
 abbrev pub zero : Float
