@@ -2,10 +2,9 @@
 use mathlib.Core.List.{List}
 use Prim.Native.Nat.{ℕ}
 use lib.Ieee.{Float}
-use Rattle.refusal.specs.Refusal.{numberOf, indexOf}
+use Rattle.refusal.specs.Refusal.{numberOf}
 use Rattle.certificate.specs.declared.check.Checked.{Checked}
-use Rattle.certificate.specs.declared.check.Checked.the-variants as checked
-use Rattle.certificate.specs.Check.{checkOf}
+use Rattle.certificate.specs.Check.{refusalOf, indexOf, checkOf}
 use Rattle.job.specs.declared.file.JobRead.{JobRead}
 use Rattle.job.specs.declared.file.JobRead.the-variants.{Whole, Refused}
 use Rattle.job.specs.File.{jobOf}
@@ -13,8 +12,7 @@ use Rattle.capi.specs.Answer.{plus, shifted}
 
 -- the refusal's number + 2^32 times the index of the point that 13 to 16 name (include/geomcore.h)
 unfoldable pub checkedWord : Checked → ℕ
-checkedWord checked.Passed = 0
-checkedWord (checked.Refused r) = plus (numberOf r) (shifted (indexOf r) 32)
+checkedWord answer = plus (refusalOf answer) (shifted (indexOf answer) 32)
 
 -- 19, or the check against the job that was read
 abbrev pub afterReading : JobRead → List Float → ℕ → ℕ → ℕ → ℕ
