@@ -57,9 +57,5 @@ pub fn point_at(points: &[f64], i: usize) -> Point3D
     ensures { λ r. ⌜ r ≡ pointAt (now (points .entry)) i ⌝ }
 {
     let at = WIDTH * i;
-    Point3D {
-        x: points[at],
-        y: points[at + 1],
-        z: points[at + 2],
-    }
+    Point3D::new(points[at], points[at + 1], points[at + 2])
 }
