@@ -22,6 +22,7 @@ answerLine (traced.Refused r) = refusedLine (numberOf r)
 unfoldable pub lentNumbers : List Float
 lentNumbers = replicate 7007 (bits 0)
 
+-- the walk of the job that was read, over the numbers lent
 abbrev pub afterReading : JobRead → Traced
 afterReading (Refused r) = traced.Refused r
 afterReading (Whole j) = traceOf (j .a) (j .b) (j .tol) (j .guess) (j .cap) lentNumbers .answer
@@ -30,5 +31,6 @@ afterReading (Whole j) = traceOf (j .a) (j .b) (j .tol) (j .guess) (j .cap) lent
 unfoldable pub answerOf : List ℕ → Traced
 answerOf bytes = afterReading (jobOf bytes)
 
+-- the line that the program writes
 unfoldable pub jobAnswer : List ℕ → List ℕ
 jobAnswer bytes = answerLine (answerOf bytes)

@@ -6,12 +6,12 @@ use Rattle.groups.specs.Groups.{holdsOf}
 use Rattle.geometry.specs.Tolerance.{toleranceFit}
 use Rattle.geometry.specs.Point.{pointOf, pointFit}
 use Rattle.boxes.specs.Box.{boxesApart}
-use Rattle.boxes.specs.Trace.{pointAt, pointBox, coverOf, boundsOf}
+use Rattle.boxes.specs.Trace.{pointBox, coverOf, boundsOf}
 use Rattle.boxes.specs.Segment.{clipOf, segmentMeetsBox}
 use Rattle.boxes.specs.Crosses.{grownOf, someSegment, runCrosses, someRun, crossesOf}
 use Rattle.boxes.specs.Crossing.{sidesFit, boxFit, someUnfit, crossingOf}
 
 -- an example says `unfolding computing` and `refl`
 unfoldable pub computing : Unit {0}
-unfolding crossingOf numberFit pointFit sidesFit boxFit someUnfit crossesOf someRun runCrosses someSegment grownOf segmentMeetsBox clipOf boundsOf coverOf pointBox pointAt boxesApart pointOf toleranceFit holdsOf absOf maxOf minOf turns exits Ieee.isNan Ieee.ofBits Ieee.add Ieee.sub Ieee.mul Ieee.div Ieee.lt Ieee.le Ieee.eq
+unfolding crossingOf numberFit pointFit sidesFit boxFit someUnfit crossesOf someRun runCrosses someSegment grownOf segmentMeetsBox clipOf boundsOf coverOf pointBox boxesApart pointOf toleranceFit holdsOf absOf maxOf minOf turns exits Ieee.isNan Ieee.ofBits Ieee.add Ieee.sub Ieee.mul Ieee.div Ieee.lt Ieee.le Ieee.eq
 computing = tt

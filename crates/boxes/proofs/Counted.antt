@@ -11,13 +11,14 @@ use borrow.Author.Tests.{ltb-true, ltb-false, le-ltb, le-leb, not-false}
 use Rattle.loops.specs.Loop.{pick}
 use Rattle.loops.proofs.Some.{some-found, some-at, some-none, some-fails}
 use Rattle.groups.specs.Groups.{width, fromGroup, holdsOf}
-use Rattle.groups.proofs.Groups.{from-number, holds-length}
+use Rattle.groups.proofs.Groups.{holds-length}
+use Rattle.groups.proofs.Rows.{point-from}
 use Rattle.geometry.specs.Tolerance.{toleranceFit}
 use Rattle.geometry.specs.declared.tolerance.Tolerance.{Tolerance}
 use Rattle.refusal.specs.declared.Refusal.the-variants as refusal
 use Rattle.boxes.specs.declared.boxtree.Aabb.{Aabb}
 use Rattle.boxes.specs.Box.{boxesApart}
-use Rattle.boxes.specs.Trace.{pointAt, boundsOf}
+use Rattle.boxes.specs.Trace.{boundsOf}
 use Rattle.boxes.specs.Crosses.{segmentMeets, someSegment, runCrosses, runsOf, firstOf, runPoints, runAt, someRun, grownOf, crossesOf}
 use Rattle.boxes.specs.declared.crossing.Crossed.{Crossed}
 use Rattle.boxes.specs.declared.crossing.Crossed.the-variants.{Yes, No, Refused}
@@ -29,15 +30,11 @@ past : (t : Bool) {u : Bool} → pick t false u ≡ true → (t ≡ false) × (u
 past true e = let z : _≡_ {A = ℕ} 0 1 = cc in absurd (omega arith)
 past false e = (refl, e)
 
--- point k of a part is point f + k of the trace, and so for segments
-point-part : (l : List Float) (f k : ℕ) → pointAt (fromGroup width f l) k ≡ pointAt l (f + k)
-unfolding pointAt
-point-part l f k = rw (from-number width l f k 0, from-number width l f k 1, from-number width l f k 2)
-
+-- segment k of a part is segment f + k of the trace
 segment-part : (l : List Float) (g : Aabb) (f k : ℕ) → segmentMeets (fromGroup width f l) g k ≡ segmentMeets l g (f + k)
 segment-part l g f k =
     let e : f + (k + 1) ≡ f + k + 1 = omega arith in
-    rw (point-part l f k, point-part l f (k + 1), e)
+    rw (point-from l f k, point-from l f (k + 1), e)
 
 -- the segments of a run: those below 16 that the trace has
 run-below : (count first k : ℕ) → k < runPoints count first - 1 → (k < 16) × (first + k + 1 < count)

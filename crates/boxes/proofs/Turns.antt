@@ -10,11 +10,12 @@ use lib.Ieee.{Float}
 use borrow.Author.Tests.{ltb-true}
 use Rattle.loops.specs.Loop.{pick}
 use Rattle.groups.specs.Groups.{width}
+use Rattle.groups.specs.Row.{pointAt}
 use Rattle.groups.proofs.Groups.{part-from}
 use Rattle.geometry.specs.declared.point.Point3D.{Point3D}
 use Rattle.geometry.specs.Point.{pointFit}
 use Rattle.boxes.specs.declared.boxtree.Aabb.{Aabb}
-use Rattle.boxes.specs.Trace.{pointAt, coverOf, coverAt}
+use Rattle.boxes.specs.Trace.{coverOf, coverAt}
 use Rattle.boxes.specs.Segment.{segmentMeetsBox}
 use Rattle.boxes.specs.Crosses.{segmentMeets, firstOf, runCrosses, runPoints, runAt}
 use Rattle.boxes.specs.Crossing.{unfitAt}

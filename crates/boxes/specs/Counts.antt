@@ -6,12 +6,13 @@ use Prim.Native.Nat.{ℕ, _+_, _*_, _/_, _≤_, _<_}
 use lib.ListN.{length}
 use lib.Ieee.{Float}
 use Rattle.groups.specs.Groups.{width, fromGroup}
+use Rattle.groups.specs.Row.{pointAt}
 use Rattle.geometry.specs.Tolerance.{toleranceFit}
 use Rattle.geometry.specs.declared.tolerance.Tolerance.{Tolerance}
 use Rattle.geometry.specs.Point.{pointFit}
 use Rattle.boxes.specs.declared.boxtree.Aabb.{Aabb}
 use Rattle.boxes.specs.Box.{boxesApart}
-use Rattle.boxes.specs.Trace.{pointAt, boundsOf}
+use Rattle.boxes.specs.Trace.{boundsOf}
 use Rattle.boxes.specs.Segment.{segmentMeetsBox}
 use Rattle.boxes.specs.Crosses.{runLength, firstOf, runPoints}
 use Rattle.boxes.specs.Crossing.{boxFit}

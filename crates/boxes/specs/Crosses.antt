@@ -8,10 +8,11 @@ use Rattle.loops.specs.Loop.{pick}
 use Rattle.loops.specs.Some.{some}
 use Rattle.number.specs.Operators.{bits, _⊕_, _⊖_, _⊗_}
 use Rattle.groups.specs.Groups.{width, fromGroup}
+use Rattle.groups.specs.Row.{pointAt}
 use Rattle.geometry.specs.Point.{pointOf}
 use Rattle.boxes.specs.declared.boxtree.Aabb.{Aabb}
 use Rattle.boxes.specs.Box.{boxesApart}
-use Rattle.boxes.specs.Trace.{pointAt, boundsOf}
+use Rattle.boxes.specs.Trace.{boundsOf}
 use Rattle.boxes.specs.Segment.{segmentMeetsBox}
 
 -- "8000 times confusion": 8.0 * 1000.0 * confusion

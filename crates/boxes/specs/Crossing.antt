@@ -8,6 +8,7 @@ use Rattle.loops.specs.Loop.{pick}
 use Rattle.loops.specs.Some.{some}
 use Rattle.number.specs.Operators.{_<?_}
 use Rattle.groups.specs.Groups.{width, holdsOf}
+use Rattle.groups.specs.Row.{pointAt}
 use Rattle.geometry.specs.Tolerance.{toleranceFit}
 use Rattle.geometry.specs.declared.tolerance.Tolerance.{Tolerance}
 use Rattle.geometry.specs.Point.{pointFit}
@@ -16,7 +17,6 @@ use Rattle.refusal.specs.declared.Refusal.the-variants as refusal
 use Rattle.boxes.specs.declared.boxtree.Aabb.{Aabb}
 use Rattle.boxes.specs.declared.crossing.Crossed.{Crossed}
 use Rattle.boxes.specs.declared.crossing.Crossed.the-variants.{Yes, No, Refused}
-use Rattle.boxes.specs.Trace.{pointAt}
 use Rattle.boxes.specs.Crosses.{crossesOf}
 
 -- not "a low side above its high side"

@@ -1,17 +1,13 @@
--- The points of a lent trace and the box around some of them. Definitions only.
+-- The box around points of a lent trace. Definitions only.
 use mathlib.Core.List.{List}
 use Prim.Native.Nat.{ℕ}
 use lib.Ieee.{Float}
 use Rattle.loops.specs.Loop.{ranged}
 use Rattle.number.specs.Helpers.{minOf, maxOf}
-use Rattle.groups.specs.Groups.{width, numberAt}
+use Rattle.groups.specs.Row.{pointAt}
 use Rattle.geometry.specs.Point.{pointOf}
 use Rattle.geometry.specs.declared.point.Point3D.{Point3D}
 use Rattle.boxes.specs.declared.boxtree.Aabb.{Aabb}
-
--- the coordinates of point i: "x, y, z" come first
-unfoldable pub pointAt : List Float → ℕ → Point3D
-pointAt l i = pointOf (numberAt width l i 0) (numberAt width l i 1) (numberAt width l i 2)
 
 -- the box that is a point
 unfoldable pub pointBox : Point3D → Aabb

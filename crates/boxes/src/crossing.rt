@@ -1,7 +1,7 @@
 use crate::boxtree::Aabb;
 use crate::marching;
-use crate::pieces;
 use geometry::Tolerance;
+use groups::row::point_at;
 use refusal::Refusal;
 ghost use mathlib.Core.Path.{_≡_};
 ghost use Prim.Native.Nat.{_*_, _≤_};
@@ -53,7 +53,7 @@ fn some_unfit(points: &[f64], count: usize) -> bool
     ensures { λ r. ⌜ r ≡ someUnfit (now (points .entry)) count ⌝ }
 {
     for i in 0..count {
-        let p = pieces::point_at(points, i);
+        let p = point_at(points, i);
         if !p.is_fit() {
             return true;
         }

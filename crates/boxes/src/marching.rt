@@ -2,6 +2,7 @@ use crate::boxtree;
 use crate::boxtree::Aabb;
 use crate::pieces;
 use geometry::Point3D;
+use groups::row::point_at;
 ghost use mathlib.Core.Path.{_≡_};
 ghost use Prim.Native.Nat.{_+_, _*_, _-_, _≤_, _<_};
 ghost use lib.ListN.{length};
@@ -74,8 +75,8 @@ fn some_segment(points: &[f64], count: usize, b: Aabb) -> bool
     ensures { λ r. ⌜ r ≡ someSegment (now (points .entry)) count b ⌝ }
 {
     for i in 0..count - 1 {
-        let p = pieces::point_at(points, i);
-        let q = pieces::point_at(points, i + 1);
+        let p = point_at(points, i);
+        let q = point_at(points, i + 1);
         if segment_meets_box(p, q, b) {
             return true;
         }

@@ -1,19 +1,11 @@
 use crate::boxtree::Aabb;
 use geometry::Point3D;
+use groups::row::point_at;
 ghost use mathlib.Core.Path.{_≡_};
-ghost use Prim.Native.Nat.{_+_, _*_, _≤_, _<_};
+ghost use Prim.Native.Nat.{_*_, _≤_, _<_};
 ghost use lib.ListN.{length};
 ghost use Rattle.groups.specs.Groups.{width};
-ghost use Rattle.boxes.specs.Trace.{pointAt, pointBox, coverOf, boundsOf};
-
-// Point i of a lent trace.
-pub(crate) fn point_at(points: &[f64], i: usize) -> Point3D
-    requires { ⌜ width * i + width ≤ length (now points) ⌝ }
-    ensures { λ r. ⌜ r ≡ pointAt (now (points .entry)) i ⌝ }
-{
-    let at = groups::WIDTH * i;
-    Point3D::new(points[at], points[at + 1], points[at + 2])
-}
+ghost use Rattle.boxes.specs.Trace.{pointBox, coverOf, boundsOf};
 
 // The box that is one point.
 fn point_box(p: Point3D) -> Aabb

@@ -13,14 +13,14 @@ use Rattle.capi.specs.Check.{checkedWord}
 small : (n : ℕ) → n < 18446744073709551616 → n % 2 ^ 64 ≡ n
 small n h = mod-eq-of-lt {n = n} {m = 18446744073709551616} h
 
--- "number + 2^8·code + 2^16·start + 2^32·count", for every trace whose parts are within 01's bounds
+-- number + 2^8 code + 2^16 start + 2^32 count, for every trace whose parts are within 01's bounds
 pub traced-word : (count start code : ℕ) → count ≤ 4001 → start < count → code ≤ 2
     → tracedWord (traced.Line count start code) ≡ code * 256 + start * 65536 + count * 4294967296
 unfolding tracedWord
 traced-word count start code h k m =
     rw (small (code * 256) (omega arith), small (start * 65536) (omega arith), small (count * 4294967296) (omega arith), small (code * 256 + start * 65536) (omega arith), small (code * 256 + start * 65536 + count * 4294967296) (omega arith))
 
--- "number + 2^32·index", for every index below 01's greatest count
+-- number + 2^32 index, for every index below 01's greatest count
 pub checked-word : (r : Refusal) → numberOf r < 256 → indexOf r ≤ 4001
     → checkedWord (checked.Refused r) ≡ numberOf r + indexOf r * 4294967296
 unfolding checkedWord

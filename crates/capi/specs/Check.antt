@@ -10,14 +10,15 @@ use Rattle.job.specs.declared.file.JobRead.the-variants.{Whole, Refused}
 use Rattle.job.specs.File.{jobOf}
 use Rattle.capi.specs.Answer.{plus, shifted}
 
--- "number + 2^32·index"
+-- the refusal's number + 2^32 times the index of the point that 13 to 16 name (include/geomcore.h)
 unfoldable pub checkedWord : Checked → ℕ
 checkedWord answer = plus (refusalOf answer) (shifted (indexOf answer) 32)
 
+-- 19, or the check against the job that was read
 abbrev pub afterReading : JobRead → List Float → ℕ → ℕ → ℕ → ℕ
 afterReading (Refused r) l count start code = numberOf r
 afterReading (Whole j) l count start code = checkedWord (checkOf (j .a) (j .b) (j .tol) l count start code)
 
--- "guess and cap of the job aren't read"
+-- the job's guess and cap are not read
 unfoldable pub checkAnswer : List ℕ → List Float → ℕ → ℕ → ℕ → ℕ
 checkAnswer bytes l count start code = afterReading (jobOf bytes) l count start code

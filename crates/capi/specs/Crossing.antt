@@ -11,18 +11,18 @@ use Rattle.geometry.specs.declared.point.Point3D.{Point3D}
 use Rattle.boxes.specs.declared.crossing.Crossed.{Crossed}
 use Rattle.boxes.specs.Crossing.{refusalOf, crossedOf, crossingOf}
 
--- number + 2^8 (1 if crossed)
-abbrev pub wordOf : Crossed → ℕ
-wordOf answer = refusalOf answer + 256 * pick (crossedOf answer) 1 0
+-- the refusal's number + 2^8 if the trace is crossed (include/geomcore.h)
+abbrev pub crossedWord : Crossed → ℕ
+crossedWord answer = refusalOf answer + 256 * pick (crossedOf answer) 1 0
 
 -- three numbers of the corners
 abbrev pub cornerAt : List Float → ℕ → Point3D
 cornerAt l at = pointOf (getD l at nan) (getD l (at + 1) nan) (getD l (at + 2) nan)
 
--- "corners: low x, y, z, then high"; fewer than six answer 8. The parametric tolerance isn't read.
-unfoldable pub crossingWord : Float → Float → List Float → ℕ → List Float → ℕ
-crossingWord confusion angular buffer count corners =
+-- the corners: low x, y, z, then high; fewer than six numbers answer 8. "The parametric tolerance isn't read."
+unfoldable pub crossingAnswer : Float → Float → List Float → ℕ → List Float → ℕ
+crossingAnswer confusion angular buffer count corners =
     pick (ltb (length corners) 6) 8
-    (wordOf
+    (crossedWord
     (crossingOf (record { confusion = confusion; angular = angular; parametric = bits 0 }) buffer count
     (record { low = cornerAt corners 0; high = cornerAt corners 3 })))

@@ -19,19 +19,20 @@ use Rattle.capi.specs.Answer.{Answer, answered}
 unfoldable pub put3 : List Float → Float → Float → Float → List Float
 put3 t x y z = set (set (set t 0 x) 1 y) 2 z
 
--- "refusal number, 0 if none"; a refusal writes nothing
+-- the refusal's number, 0 if none (include/geomcore.h); a refusal writes nothing
 abbrev pub locatedAnswer : Located → List Float → Answer
 locatedAnswer (located.Refused r) t = answered (numberOf r) t
 locatedAnswer (located.At p) t = answered 0 (put3 t (p .x) (p .y) (p .z))
 
--- "out: at least 3 numbers", else 8
+-- fewer than 3 numbers lent answer 8
 unfoldable pub pointOn : Patch → Float → Float → List Float → Answer
 pointOn p u v t = pick (ltb (length t) 3) (answered 8 t) (locatedAnswer (locatedOf p u v) t)
 
+-- 19, or the point of the surface that was read
 abbrev pub afterReading : SurfaceRead → Float → Float → List Float → Answer
 afterReading (surface.Refused r) u v t = answered (numberOf r) t
 afterReading (surface.Whole p) u v t = pointOn p u v t
 
--- "surface: the 146 bytes of the job file", else 19
+-- by the surface's 146 bytes of the job file
 unfoldable pub pointAnswer : List ℕ → Float → Float → List Float → Answer
 pointAnswer bytes u v t = afterReading (surfaceFile bytes) u v t

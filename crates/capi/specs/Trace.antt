@@ -11,18 +11,20 @@ use Rattle.job.specs.declared.file.JobRead.the-variants.{Whole, Refused}
 use Rattle.job.specs.File.{jobOf}
 use Rattle.capi.specs.Answer.{Answer, answered, plus, shifted}
 
--- "number + 2^8·code + 2^16·start + 2^32·count"
+-- the refusal's number + 2^8 times the closing code + 2^16 times the start's index + 2^32 times the count (include/geomcore.h)
 unfoldable pub tracedWord : Traced → ℕ
 tracedWord (traced.Line count start code) = plus (plus (shifted code 8) (shifted start 16)) (shifted count 32)
 tracedWord (traced.Refused r) = numberOf r
 
+-- the answer as a word, and the buffer
 abbrev pub outcomeAnswer : Outcome → Answer
 outcomeAnswer o = answered (tracedWord (o .answer)) (o .buffer)
 
+-- 19, or the walk of the job that was read
 abbrev pub afterReading : JobRead → List Float → Answer
 afterReading (Refused r) t = answered (numberOf r) t
 afterReading (Whole j) t = outcomeAnswer (traceOf (j .a) (j .b) (j .tol) (j .guess) (j .cap) t)
 
--- "job: the 347 bytes; the lent buffer may have any length"
+-- by the 347 bytes of a job file; the lent buffer may have any length
 unfoldable pub traceAnswer : List ℕ → List Float → Answer
 traceAnswer bytes t = afterReading (jobOf bytes) t

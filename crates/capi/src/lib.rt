@@ -16,7 +16,7 @@ ghost use Prim.Native.Nat.{_+_, _≤_};
 ghost use lib.ListN.{length};
 ghost use Rattle.capi.specs.Answer.{answered};
 ghost use Rattle.capi.specs.Check.{checkedWord, checkAnswer};
-ghost use Rattle.capi.specs.Crossing.{wordOf, cornerAt, crossingWord};
+ghost use Rattle.capi.specs.Crossing.{crossedWord, cornerAt, crossingAnswer};
 ghost use Rattle.capi.specs.Point.{put3, pointOn, pointAnswer};
 ghost use Rattle.capi.specs.Trace.{tracedWord, traceAnswer};
 ghost use Rattle.fdlibm.specs.Arctangent.{atan2Of};
@@ -168,7 +168,7 @@ pub extern "C" fn geomcore_check(
 
 // The answer's word: the refusal's number, and 2^8 where the trace is crossed.
 fn crossed_word(answer: Crossed) -> u64
-    ensures { λ r. ⌜ r ≡ wordOf answer ⌝ }
+    ensures { λ r. ⌜ r ≡ crossedWord answer ⌝ }
 {
     match answer {
         Crossed::Yes => 256,
@@ -194,7 +194,7 @@ pub extern "C" fn geomcore_crossing(
     count: u64,
     corners: &[f64],
 ) -> u64
-    ensures { λ r. ⌜ r ≡ crossingWord confusion angular (now (buffer .entry)) count (now (corners .entry)) ⌝ }
+    ensures { λ r. ⌜ r ≡ crossingAnswer confusion angular (now (buffer .entry)) count (now (corners .entry)) ⌝ }
 {
     if corners.len() < 6 {
         return 8;

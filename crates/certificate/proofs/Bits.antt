@@ -11,7 +11,7 @@ use lib.Ieee.Fits.{add-fits, and-l, and-r, and-i}
 use Rattle.number.specs.Helpers.{sameBits}
 use Rattle.number.proofs.Sign.{same-bits→eq, eq→same-bits}
 use Rattle.groups.specs.declared.row.Row.{Row}
-use Rattle.groups.specs.Row.{rowAt}
+use Rattle.groups.specs.Row.{rowAt, pointAt}
 use Rattle.geometry.specs.declared.point.Point3D.{Point3D}
 use Rattle.geometry.specs.declared.frame.Frame3D.{Frame3D}
 use Rattle.geometry.specs.Vector.{scaleOf}
@@ -22,7 +22,6 @@ use Rattle.analytic.specs.declared.surface.Surface.{Surface}
 use Rattle.analytic.specs.declared.surface.Surface.the-variants.{Plane, Cylinder, Cone, Sphere, Torus}
 use Rattle.analytic.specs.Analytic.{planeD0, cylinderD0, coneD0, sphereD0, torusD0}
 use Rattle.analytic.specs.Surface.{evalPoint}
-use Rattle.certificate.specs.Passes.{pointAt}
 use Rattle.certificate.specs.Check.{samePoint, sameRow}
 
 -- the numbers of a list are binary64: so are those of every list that a program lends

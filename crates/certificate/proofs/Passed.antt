@@ -16,7 +16,7 @@ use Rattle.loops.proofs.Loop.{searched-out, searched-end, searched-step}
 use Rattle.number.specs.Operators.{_≤?_}
 use Rattle.groups.specs.Groups.{width, holdsOf}
 use Rattle.groups.specs.declared.row.Row.{Row}
-use Rattle.groups.specs.Row.{rowAt, rowOf}
+use Rattle.groups.specs.Row.{rowAt, rowOf, pointAt}
 use Rattle.groups.proofs.Groups.{holds-length}
 use Rattle.groups.proofs.Rows.{row-there}
 use Rattle.refusal.specs.declared.Refusal.{Refusal}
@@ -31,7 +31,7 @@ use Rattle.patch.specs.Located.{pointA, pointB}
 use Rattle.patch.specs.Patch.{fitnessOf, insideOf}
 use Rattle.certificate.specs.declared.check.Checked.{Checked}
 use Rattle.certificate.specs.declared.check.Checked.the-variants.{Passed, Refused}
-use Rattle.certificate.specs.Passes.{pointAt, parametersAt, closingChord, PointPasses, ClosedAs, claimed-open, forward, backward, Passes}
+use Rattle.certificate.specs.Passes.{parametersAt, closingChord, PointPasses, ClosedAs, claimed-open, forward, backward, Passes}
 use Rattle.certificate.specs.Check.{andThen, asked, finitePoint, samePoint, ownOf, pointAnswer, chordFits, answerAt, stopped, pointTurn, allPassed, pointsAnswer, sameRow, closingSo, claimSo, fitOf, claimAnswer, checkOf}
 use Rattle.certificate.proofs.Bits.{Binary64, point-equal, equal-point, read-fits, row-equal, equal-row, fresh-fits}
 

@@ -10,7 +10,8 @@ use Rattle.patch.specs.declared.patch.Patch.{Patch}
 use Rattle.patch.specs.declared.patch.Parameters.{Parameters}
 use Rattle.certificate.specs.declared.check.Checked.{Checked}
 use Rattle.certificate.specs.declared.check.Checked.the-variants.{Passed, Refused}
-use Rattle.certificate.specs.Passes.{pointAt, parametersAt}
+use Rattle.groups.specs.Row.{pointAt}
+use Rattle.certificate.specs.Passes.{parametersAt}
 use Rattle.certificate.specs.Check.{pointAnswer, answerAt, stopped, pointTurn}
 
 module _ (a b : Patch) (confusion : Float) (l : List Float) where

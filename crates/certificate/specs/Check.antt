@@ -10,7 +10,7 @@ use Rattle.number.specs.Operators.{_≤?_}
 use Rattle.number.specs.Helpers.{sameBits}
 use Rattle.groups.specs.Groups.{width, holdsOf}
 use Rattle.groups.specs.declared.row.Row.{Row}
-use Rattle.groups.specs.Row.{rowOf}
+use Rattle.groups.specs.Row.{rowOf, pointAt}
 use Rattle.refusal.specs.declared.Refusal.{Refusal}
 use Rattle.refusal.specs.declared.Refusal.the-variants as refusal
 use Rattle.refusal.specs.Refusal as number
@@ -26,13 +26,14 @@ use Rattle.patch.specs.Located.{pointA, pointB}
 use Rattle.patch.specs.Patch.{fitnessOf, insideOf}
 use Rattle.certificate.specs.declared.check.Checked.{Checked}
 use Rattle.certificate.specs.declared.check.Checked.the-variants.{Passed, Refused}
-use Rattle.certificate.specs.Passes.{pointAt, parametersAt, closingChord}
+use Rattle.certificate.specs.Passes.{parametersAt, closingChord}
 
--- the paper's number for each case (0: passed), and the index that 13 to 16 add
+-- the paper's number for each case (0: passed)
 abbrev pub refusalOf : Checked → ℕ
 refusalOf Passed = 0
 refusalOf (Refused r) = number.numberOf r
 
+-- the index of the point that 13 to 16 add
 abbrev pub indexOf : Checked → ℕ
 indexOf Passed = 0
 indexOf (Refused r) = number.indexOf r
@@ -42,17 +43,21 @@ abbrev pub andThen : Checked → Checked → Checked
 andThen (Refused r) next = Refused r
 andThen Passed next = next
 
+-- one test: refused where it fails
 abbrev pub asked : Bool → Refusal → Checked
 asked t r = pick t Passed (Refused r)
 
 -- ---- 13: "not A's own point: a coordinate worked out afresh is not finite, or its bits differ"
 
+-- no coordinate "is not finite"
 unfoldable pub finitePoint : Point3D → Bool
 finitePoint p = finite (p .x) && (finite (p .y) && finite (p .z))
 
+-- no coordinate's "bits differ"
 unfoldable pub samePoint : Point3D → Point3D → Bool
 samePoint p q = sameBits (p .x) (q .x) && (sameBits (p .y) (q .y) && sameBits (p .z) (q .z))
 
+-- A's own point: what 13 lets through
 unfoldable pub ownOf : Point3D → Point3D → Bool
 ownOf stored fresh = finitePoint fresh && samePoint stored fresh
 
@@ -74,6 +79,7 @@ chordFits l count closing i =
     (pick (closingChord count closing i) true
     (distanceOf (pointAt l i) (pointAt l (i - 1)) ≤? longestChord))
 
+-- all four tests of point i
 unfoldable pub answerAt : Patch → Patch → Float → List Float → ℕ → ℕ → ℕ → Checked
 answerAt a b confusion l count closing i =
     andThen (pointAnswer a b confusion (pointAt l i) (parametersAt l i) i) (asked (chordFits l count closing i) (refusal.Chord i))
@@ -83,17 +89,21 @@ abbrev pub stopped : Checked → Flow (Unit {0}) Checked
 stopped (Refused r) = out (Refused r)
 stopped Passed = on tt
 
+-- one turn of the loop over the points
 abbrev pub pointTurn : Patch → Patch → Float → List Float → ℕ → ℕ → ℕ → Unit {0} → Flow (Unit {0}) Checked
 pointTurn a b confusion l count closing i s = stopped (answerAt a b confusion l count closing i)
 
+-- no point was refused
 abbrev pub allPassed : Unit {0} → Checked
 allPassed s = Passed
 
+-- all points, from 0 on
 unfoldable pub pointsAnswer : Patch → Patch → Float → List Float → ℕ → ℕ → Checked
 pointsAnswer a b confusion l count closing = searched (pointTurn a b confusion l count closing) allPassed 0 count (on tt)
 
 -- ---- 12: "count outside 4 to 4001, start index not below the count, closing code above 2, or a closing that isn't so"
 
+-- seven numbers equal "in bits"
 unfoldable pub sameRow : Row → Row → Bool
 sameRow p q =
     sameBits (p .x) (q .x)
@@ -112,6 +122,7 @@ closingSo l count start closing =
     (pick (eqb closing 1) (pick (eqb start 0) (sameRow (rowOf l (count - 1)) (rowOf l 0)) false)
     (pick (eqb closing 2) (pick (ltb start 2) false (sameRow (rowOf l 0) (rowOf l start))) false))
 
+-- what 12 lets through
 unfoldable pub claimSo : List Float → ℕ → ℕ → ℕ → Bool
 claimSo l count start closing =
     pick (ltb count 4) false

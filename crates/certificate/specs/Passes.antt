@@ -10,7 +10,7 @@ use lib.Ieee.Scale.{finite}
 use Rattle.loops.specs.Loop.{pick}
 use Rattle.number.specs.Operators.{_≤?_}
 use Rattle.groups.specs.Groups.{width}
-use Rattle.groups.specs.Row.{rowAt}
+use Rattle.groups.specs.Row.{rowAt, pointAt}
 use Rattle.geometry.specs.declared.point.Point3D.{Point3D}
 use Rattle.geometry.specs.declared.tolerance.Tolerance.{Tolerance}
 use Rattle.geometry.specs.Point.{distanceOf, longestChord}
@@ -21,10 +21,7 @@ use Rattle.patch.specs.declared.patch.Fitness.the-variants.{Fit}
 use Rattle.patch.specs.Located.{pointA, pointB}
 use Rattle.patch.specs.Patch.{fitnessOf, insideOf}
 
--- the coordinates of point i, and the parameters beside them
-abbrev pub pointAt : List Float → ℕ → Point3D
-pointAt l i = record { x = rowAt l i .x; y = rowAt l i .y; z = rowAt l i .z }
-
+-- the parameters beside the coordinates of point i: "then u, v on A and u, v on B"
 abbrev pub parametersAt : List Float → ℕ → Parameters
 parametersAt l i = record { u1 = rowAt l i .u1; v1 = rowAt l i .v1; u2 = rowAt l i .u2; v2 = rowAt l i .v2 }
 

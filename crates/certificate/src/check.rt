@@ -1,6 +1,8 @@
 use geometry::Point3D;
 use geometry::Tolerance;
 use groups::Row;
+use groups::row::point_at;
+use groups::row::row_of;
 use patch::Fitness;
 use patch::Parameters;
 use patch::Patch;
@@ -10,7 +12,7 @@ ghost use Prim.Native.Nat.{_+_, _*_, _≤_, _<_};
 ghost use lib.ListN.{length};
 ghost use Rattle.groups.specs.Groups.{width};
 ghost use Rattle.certificate.specs.declared.check.Checked.the-variants.{Passed};
-ghost use Rattle.certificate.specs.Passes.{pointAt, parametersAt, closingChord, Passes};
+ghost use Rattle.certificate.specs.Passes.{parametersAt, closingChord, Passes};
 ghost use Rattle.certificate.specs.Check.{finitePoint, samePoint, ownOf, pointAnswer, chordFits, answerAt, pointsAnswer, sameRow, closingSo, claimSo, claimAnswer, checkOf};
 
 // The answer of the public check.
@@ -19,20 +21,7 @@ pub enum Checked {
     Refused(Refusal),
 }
 
-// The coordinates of point i of a lent trace.
-fn point_at(points: &[f64], i: usize) -> Point3D
-    requires { ⌜ width * i + width ≤ length (now points) ⌝ }
-    ensures { λ r. ⌜ r ≡ pointAt (now (points .entry)) i ⌝ }
-{
-    let at = groups::WIDTH * i;
-    Point3D {
-        x: points[at],
-        y: points[at + 1],
-        z: points[at + 2],
-    }
-}
-
-// The parameters beside them.
+// The parameters beside the coordinates of point i of a lent trace.
 fn parameters_at(points: &[f64], i: usize) -> Parameters
     requires { ⌜ width * i + width ≤ length (now points) ⌝ }
     ensures { λ r. ⌜ r ≡ parametersAt (now (points .entry)) i ⌝ }
@@ -221,10 +210,7 @@ fn closing_so(points: &[f64], count: usize, start: usize, closing: usize) -> boo
     }
     if closing == 1 {
         if start == 0 {
-            return same_row(
-                groups::row::row_of(points, count - 1),
-                groups::row::row_of(points, 0),
-            );
+            return same_row(row_of(points, count - 1), row_of(points, 0));
         }
         return false;
     }
@@ -232,10 +218,7 @@ fn closing_so(points: &[f64], count: usize, start: usize, closing: usize) -> boo
         if start < 2 {
             return false;
         }
-        return same_row(
-            groups::row::row_of(points, 0),
-            groups::row::row_of(points, start),
-        );
+        return same_row(row_of(points, 0), row_of(points, start));
     }
     false
 }

@@ -8,6 +8,8 @@ use lib.IntN.{negsuc}
 use lib.ListN.{replicate}
 use lib.Ieee.{Float, fin, binary64, toBits}
 use Rattle.number.specs.Operators.{bits}
+use Rattle.number.specs.Helpers.{one, half}
+use Rattle.groups.specs.Row.{zero}
 use Rattle.geometry.specs.declared.tolerance.Tolerance.{Tolerance}
 use Rattle.geometry.specs.Tolerance.{defaultTolerance}
 use Rattle.analytic.specs.declared.surface.Surface.{Surface}
@@ -32,13 +34,7 @@ use Rattle.cramer.specs.declared.Solved2.the-variants as solved2
 use Rattle.solve.specs.declared.Solved3.the-variants as solved3
 use Rattle.walk.specs.Trace.{Outcome, traceOf, refusalOf}
 
--- the numbers of the rows
-abbrev pub zero : Float
-zero = bits 0
-
-abbrev pub one : Float
-one = bits 0x3ff0_0000_0000_0000
-
+-- the other numbers of the rows
 abbrev pub -one : Float
 -one = bits 0xbff0_0000_0000_0000
 
@@ -57,7 +53,13 @@ four = bits 0x4010_0000_0000_0000
 abbrev pub five : Float
 five = bits 0x4014_0000_0000_0000
 
--- 1e-12 and 4e-12
+-- 1.5 and -1.5, 1e-12 and 4e-12
+abbrev pub threeHalves : Float
+threeHalves = bits 0x3ff8_0000_0000_0000
+
+abbrev pub -threeHalves : Float
+-threeHalves = bits 0xbff8_0000_0000_0000
+
 abbrev pub 1e-12 : Float
 1e-12 = bits 0x3d71_9799_812d_ea11
 
@@ -71,16 +73,6 @@ over2 e = fin false 1 (negsuc (e - 1))
 -- the matrix with this diagonal
 abbrev pub diagonal : Float → Float → Float → List (List Float)
 diagonal a b c = (a ∷ zero ∷ zero ∷ []) ∷ (zero ∷ b ∷ zero ∷ []) ∷ (zero ∷ zero ∷ c ∷ []) ∷ []
-
--- 0.5 and 1.5, and -1.5
-abbrev pub half : Float
-half = bits 0x3fe0_0000_0000_0000
-
-abbrev pub threeHalves : Float
-threeHalves = bits 0x3ff8_0000_0000_0000
-
-abbrev pub minusThreeHalves : Float
-minusThreeHalves = bits 0xbff8_0000_0000_0000
 
 -- "Windows all 0 to 1, no marks", whatever the surface
 abbrev pub unitPatch : Surface → Patch
@@ -106,7 +98,7 @@ fourPoints p =
 
 -- "confusion 2^-20, angular 1e-12", whatever the parametric tolerance
 abbrev pub confusion20 : Float → Tolerance
-confusion20 t = record { confusion = bits 0x3eb0_0000_0000_0000; angular = bits 0x3d71_9799_812d_ea11; parametric = t }
+confusion20 t = record { confusion = bits 0x3eb0_0000_0000_0000; angular = 1e-12; parametric = t }
 
 -- "the box that is the point"
 abbrev pub boxAt : Float → Float → Float → Aabb
@@ -142,6 +134,7 @@ abbrev pub lent : ℕ → (ℕ → Float) → List Float
 lent nat.zero p = []
 lent (nat.suc k) p = p k ∷ lent k p
 
+-- "The (P) rows form one table"
 pub record Table : Type 0 where
   -- "Plane, unit frame, (3, -2): point (3, -2, 0)."
   pub row1 : evalPoint (Plane unitFrame) three -two ≡ pointOf three -two zero
@@ -165,7 +158,7 @@ pub record Table : Type 0 where
       ((a b : Surface)
       → leavingOf (unitPatch a) (unitPatch b) (parameters half half half half) (parameters threeHalves half threeHalves half) ≡ exit.At 0 one)
       × ((a b : Surface)
-      → leavingOf (unitPatch a) (unitPatch b) (parameters half half half half) (parameters threeHalves half half minusThreeHalves)
+      → leavingOf (unitPatch a) (unitPatch b) (parameters half half half half) (parameters threeHalves half half -threeHalves)
       ≡ exit.At 3 zero)
   -- "Points (0,0,0), (0.1,0,0), (0.2,0,0), (0.3,0,0), confusion 2^-20, angular 1e-12: the box that is the point (0.15, 0.005, 0) is
   -- crossed, (0.15, 0.01, 0) is not."

@@ -1,4 +1,4 @@
--- The exact claim on a gap (the mission's "at most confusion² (1 + 2^-50)"). Definitions only.
+-- The exact claim on a gap ("at most confusion squared times (1 + 2^-50)"). Definitions only.
 use Prim.Native.Nat.{ℕ, _+_, _*_, _^_, _≤_}
 use lib.Ieee.{Float}
 use Rattle.number.specs.Units.{mag}

@@ -1,24 +1,19 @@
 -- The laws of groups in a flat list, for every width. Assumes nothing.
-use mathlib.Core.Path.{_≡_, refl, ap, sym, subst, _∙_}
+use mathlib.Core.Path.{_≡_, refl, sym, subst, _∙_}
 use mathlib.Core.Bool.{Bool, true, false}
 use mathlib.Core.List.{List}
 use Prim.Native.Nat.{ℕ, _+_, _-_, _*_, _/_, _≤_, _<_}
 use native.Mathlib.Omega.{arith}
 use lib.Dec.{leb}
-use lib.ListN.{length, take, drop, getD, length-drop}
-use lib.Seq.{take-all, getD-drop}
-use lib.Ieee.{Float, nan}
-use native.Mathlib.Nat.{mul-add, mul-comm, le-div-iff-mul-le, div-lt-iff-lt-mul}
+use lib.ListN.{length, take, drop, length-drop}
+use lib.Seq.{take-all}
+use native.Mathlib.Nat.{mul-comm, le-div-iff-mul-le, div-lt-iff-lt-mul}
 use borrow.Author.Tests.{leb-true, leb-false, le-leb, lt-leb}
-use Rattle.groups.specs.Groups.{holdsOf, numberAt, fromGroup}
+use Rattle.groups.specs.Groups.{holdsOf}
 
 -- the part of a slice from number k on, as the borrow checker writes it, is the list without the numbers before
 pub part-from : {A : Type 0} (k : ℕ) (l : List A) → take (length l - k) (drop k l) ≡ drop k l
 part-from k l = take-all (length l - k) (drop k l) (let f = length-drop k l in omega arith)
-
--- group i of what is left from group f on is group f + i of the whole
-pub from-number : (w : ℕ) (l : List Float) (f i k : ℕ) → numberAt w (fromGroup w f l) i k ≡ numberAt w l (f + i) k
-from-number w l f i k = rw getD-drop (ap (λ (n : ℕ). getD l n nan) (let e = mul-add w f i in omega arith))
 
 -- whole groups are counted by the quotient
 pub holds-quotient : {A : Type 0} (w : ℕ) (l : List A) (count : ℕ) → 0 < w → leb count (length l / w) ≡ holdsOf w l count

@@ -1,18 +1,13 @@
 -- Groups of one width in a flat list. Definitions only.
 use mathlib.Core.Bool.{Bool}
 use mathlib.Core.List.{List}
-use Prim.Native.Nat.{ℕ, _+_, _*_}
+use Prim.Native.Nat.{ℕ, _*_}
 use lib.Dec.{leb}
-use lib.ListN.{length, drop, getD}
-use lib.Ieee.{Float, nan}
+use lib.ListN.{length, drop}
 
 -- "seven numbers a point": x, y, z, then u, v on A and u, v on B
 abbrev pub width : ℕ
 width = 7
-
--- the k-th number of group i, the groups being w wide
-abbrev pub numberAt : ℕ → List Float → ℕ → ℕ → Float
-numberAt w l i k = getD l (w * i + k) nan
 
 -- the list from group i on
 abbrev pub fromGroup : {A : Type 0} → ℕ → ℕ → List A → List A

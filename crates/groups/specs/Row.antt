@@ -6,6 +6,7 @@ use lib.ListN.{length, getD}
 use lib.Ieee as Ieee
 use lib.Ieee.{Float, nan, binary64}
 use Rattle.loops.specs.Loop.{pick}
+use Rattle.geometry.specs.declared.point.Point3D.{Point3D}
 use Rattle.groups.specs.declared.row.Row.{Row}
 use Rattle.groups.specs.Groups.{width}
 
@@ -13,7 +14,7 @@ use Rattle.groups.specs.Groups.{width}
 abbrev pub numbersOf : Row → List Float
 numbersOf r = r .x ∷ r .y ∷ r .z ∷ r .u1 ∷ r .v1 ∷ r .u2 ∷ r .v2 ∷ []
 
--- the numbers of the point that stands from index `at` on, and of point i
+-- the numbers of the point that stands from index `at` on
 abbrev pub rowFrom : List Float → ℕ → Row
 rowFrom l at = record {
   x = getD l at nan;
@@ -25,15 +26,22 @@ rowFrom l at = record {
   v2 = getD l (at + 6) nan;
 }
 
+-- the numbers of point i, where the list has them
 abbrev pub rowAt : List Float → ℕ → Row
 rowAt l i = rowFrom l (width * i)
 
+-- its coordinates: "x, y, z" come first
+abbrev pub pointAt : List Float → ℕ → Point3D
+pointAt l i = record { x = rowAt l i .x; y = rowAt l i .y; z = rowAt l i .z }
+
+-- positive zero
 abbrev pub zero : Float
 zero = Ieee.ofBits binary64 0
 
+-- seven zeros
 abbrev pub noRow : Row
 noRow = record { x = zero; y = zero; z = zero; u1 = zero; v1 = zero; u2 = zero; v2 = zero }
 
--- the same for any list: zeros where it has no point i
+-- the numbers of point i of any list: zeros where it has no point i
 unfoldable pub rowOf : List Float → ℕ → Row
 rowOf l i = pick (ltb i (length l / width)) (rowAt l i) noRow

@@ -1,9 +1,10 @@
 use crate::WIDTH;
+use geometry::Point3D;
 ghost use mathlib.Core.Path.{_≡_};
-ghost use Prim.Native.Nat.{_+_, _≤_};
+ghost use Prim.Native.Nat.{_+_, _*_, _≤_};
 ghost use lib.ListN.{length};
 ghost use Rattle.groups.specs.Groups.{width};
-ghost use Rattle.groups.specs.Row.{rowFrom, rowOf};
+ghost use Rattle.groups.specs.Row.{rowFrom, rowOf, pointAt};
 
 // The numbers of one point: a point of surface A, then its parameters on A and on B.
 pub struct Row {
@@ -48,4 +49,13 @@ pub fn row_of(points: &[f64], i: usize) -> Row
         u2: 0.0,
         v2: 0.0,
     }
+}
+
+// The coordinates of point i of the list.
+pub fn point_at(points: &[f64], i: usize) -> Point3D
+    requires { ⌜ width * i + width ≤ length (now points) ⌝ }
+    ensures { λ r. ⌜ r ≡ pointAt (now (points .entry)) i ⌝ }
+{
+    let at = WIDTH * i;
+    Point3D::new(points[at], points[at + 1], points[at + 2])
 }

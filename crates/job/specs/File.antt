@@ -27,12 +27,15 @@ use Rattle.job.specs.Layout.{versionPlace, surfaceAPlace, surfaceBPlace,
 
 -- ---- "12 frame numbers (origin, x, y, z direction)"
 
+-- the origin: three numbers
 unfoldable pub pointAt : List ℕ → ℕ → Point3D
 pointAt s at = record { x = numberAt s at; y = numberAt s (at + 8); z = numberAt s (at + 16) }
 
+-- a direction: three numbers
 unfoldable pub directionAt : List ℕ → ℕ → Vector3D
 directionAt s at = record { x = numberAt s at; y = numberAt s (at + 8); z = numberAt s (at + 16) }
 
+-- the frame: "origin, x, y, z direction"
 unfoldable pub frameAt : List ℕ → ℕ → Frame3D
 frameAt s at = record { origin = pointAt s at; x = directionAt s (at + 24); y = directionAt s (at + 48); z = directionAt s (at + 72) }
 
@@ -53,6 +56,7 @@ marked marks one = pick (eqb marks one) true (eqb marks 3)
 unfoldable pub windowAt : List ℕ → ℕ → Bool → Window
 windowAt s at turn = record { low = numberAt s at; high = numberAt s (at + 8); turn = turn }
 
+-- the surface with its windows and turn marks
 unfoldable pub patchAt : List ℕ → ℕ → ℕ → ℕ → Patch
 patchAt s at kind marks =
     record {
@@ -70,6 +74,7 @@ unusedClear kind first second =
     (pick (eqb kind 1) (eqb second 0)
     (pick (eqb kind 3) (eqb second 0) true))
 
+-- the surface that stands from byte `at` on, or 19
 unfoldable pub surfaceAt : List ℕ → ℕ → SurfaceRead
 surfaceAt s at =
     pick (ltb 4 (byteAt s at)) (surface.Refused JobFile)
@@ -99,10 +104,12 @@ jobAt s a b =
       cap = twoAt s capPlace;
     }
 
+-- with surface A read: surface B, then the rest
 abbrev pub withB : List ℕ → Patch → SurfaceRead → JobRead
 withB s a (surface.Whole b) = Whole (jobAt s a b)
 withB s a (surface.Refused r) = Refused JobFile
 
+-- surface A, then surface B
 abbrev pub withA : List ℕ → SurfaceRead → JobRead
 withA s (surface.Whole a) = withB s a (surfaceAt s surfaceBPlace)
 withA s (surface.Refused r) = Refused JobFile

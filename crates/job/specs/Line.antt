@@ -23,9 +23,11 @@ unfoldable pub valueOf : List ℕ → ℕ → ℕ
 valueOf [] a = a
 valueOf (d ∷ ds) a = valueOf ds (a * 10 + (d - 48))
 
+-- between two numbers
 abbrev pub space : List ℕ
 space = 32 ∷ []
 
+-- "It writes one line": its end
 abbrev pub newline : List ℕ
 newline = 10 ∷ []
 

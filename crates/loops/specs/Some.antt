@@ -7,6 +7,7 @@ use Rattle.loops.specs.Loop.{pick, Flow, on, out, searched}
 abbrev pub stopAt : (ℕ → Bool) → ℕ → Unit {0} → Flow (Unit {0}) Bool
 stopAt test i s = pick (test i) (out true) (on s)
 
+-- what a search that ran out of indices answers
 abbrev pub none : Unit {0} → Bool
 none s = false
 

@@ -76,7 +76,7 @@ normalMatrix c =
 abbrev pub minus : Vector3D → List Float
 minus f = neg (f .x) ∷ neg (f .y) ∷ neg (f .z) ∷ []
 
--- "The minimum-norm step": J^T y with J J^T y = -f
+-- the Rust's minimum-norm step `J^T y` with `J J^T y = -f`
 abbrev pub minimumNorm : Columns → Solved3 → Step
 minimumNorm c solved3.Singular = Singular
 minimumNorm c (solved3.Solution s) =

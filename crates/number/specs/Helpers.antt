@@ -37,7 +37,7 @@ minOf a b = cond (isNan a) b (cond (isNan b) a (cond (b <? a) b a))
 abbrev pub clampOf : Float → Float → Float → Float
 clampOf x lo hi = cond (x <? lo) lo (cond (hi <? x) hi x)
 
--- not "not finite, or above the limit in magnitude": false at a NaN, and at an infinity under a finite limit
+-- at most the limit in magnitude: false at a NaN, and at an infinity under a finite limit
 abbrev pub magnitudeAtMost : Float → Float → Bool
 magnitudeAtMost x limit = absOf x ≤? limit
 

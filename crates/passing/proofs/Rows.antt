@@ -11,7 +11,7 @@ use lib.ListN.{length, getD, length-append}
 use lib.Seq.{getD-append-add}
 use Rattle.number.specs.Operators.{_≤?_}
 use Rattle.groups.specs.declared.row.Row.{Row}
-use Rattle.groups.specs.Row.{numbersOf, rowAt}
+use Rattle.groups.specs.Row.{numbersOf, rowAt, pointAt}
 use Rattle.geometry.specs.declared.point.Point3D.{Point3D}
 use Rattle.geometry.specs.declared.tolerance.Tolerance.{Tolerance}
 use Rattle.geometry.specs.Tolerance.{toleranceFit}
@@ -23,7 +23,7 @@ use Rattle.patch.specs.Patch.{fitnessOf, insideOf}
 use Rattle.patch.specs.Located.{pointA, pointB}
 use Rattle.good.specs.Good.{Good}
 use Rattle.good.proofs.Good.{good-finite}
-use Rattle.certificate.specs.Passes.{pointAt, parametersAt, closingChord, PointPasses, ClosedAs, claimed-open, forward, backward, Passes}
+use Rattle.certificate.specs.Passes.{parametersAt, closingChord, PointPasses, ClosedAs, claimed-open, forward, backward, Passes}
 use Rattle.walk.specs.Lent.{ownRow, rowsOf}
 use Rattle.walk.proofs.Halves.{rows-length}
 use Rattle.passing.proofs.Chains.{All, all-at}

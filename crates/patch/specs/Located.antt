@@ -15,14 +15,15 @@ use Rattle.patch.specs.declared.point.Located.the-variants.{At, Refused}
 use Rattle.analytic.specs.Surface.{evalPoint}
 use Rattle.patch.specs.Patch.{fitnessOf}
 
--- A's and B's points at the parameters: the walk's, and the check's "both worked out afresh at its parameters"
+-- A's point at the parameters: the walk's, and of the check's two points, "both worked out afresh at its parameters", the first
 abbrev pub pointA : Patch → Parameters → Point3D
 pointA a x = evalPoint (a .surface) (x .u1) (x .v1)
 
+-- B's point at them
 abbrev pub pointB : Patch → Parameters → Point3D
 pointB b x = evalPoint (b .surface) (x .u2) (x .v2)
 
--- "Point: 1 to 4, then 6": 6 is "a guess or parameter that is not finite"
+-- 1 to 4 are the patch's; 6: "a guess or parameter that is not finite"
 abbrev pub afterFitness : Patch → Float → Float → Fitness → Located
 afterFitness p u v (Unfit r) = Refused r
 afterFitness p u v Fit = pick (finite u) (pick (finite v) (At (evalPoint (p .surface) u v)) (Refused Parameter)) (Refused Parameter)

@@ -45,7 +45,7 @@ numbersFit (Torus f maj min) = bothFit f maj min
 
 -- ---- 2: "a wrong size"
 
--- "both torus radii: above 0"
+-- two sizes above 0
 unfoldable pub bothPositive : Float → Float → Bool
 bothPositive a b = bits 0 <? a && bits 0 <? b
 
@@ -53,7 +53,7 @@ bothPositive a b = bits 0 <? a && bits 0 <? b
 unfoldable pub coneFits : Float → Float → Bool
 coneFits r a = bits 0 ≤? r && absOf a <? bits 0x3FF8_0000_0000_0000
 
--- "Cylinder and sphere radius: above 0"
+-- what 2 lets through, for each kind: "Cylinder and sphere radius, both torus radii: above 0"
 unfoldable pub sizesFit : Surface → Bool
 sizesFit (Plane f) = true
 sizesFit (Cylinder f r) = bits 0 <? r
@@ -75,7 +75,7 @@ uIsAngle (Cone f r a) = true
 uIsAngle (Sphere f r) = true
 uIsAngle (Torus f maj min) = true
 
--- "Angles are .. v of torus."
+-- "and v of torus"
 unfoldable pub vIsAngle : Surface → Bool
 vIsAngle (Plane f) = false
 vIsAngle (Cylinder f r) = false

@@ -5,9 +5,7 @@
 //! and writes one line with `report`: `square roots: 4123 compared, 0 differ`.
 ghost use mathlib.Core.Path.{_≡_};
 ghost use mathlib.Core.Bool.{true};
-ghost use Prim.Native.Nat.{_+_, _≤_, _<_};
-ghost use lib.ListN.{length, getD};
-ghost use Rattle.replay.specs.Word.{halfAt, wordAt};
+ghost use Rattle.replay.specs.Word.{wordAt};
 ghost use Rattle.replay.specs.Tally.{countedOf, endedOf};
 
 // How many records were compared, how many of them differ, which was the first that did (from 0), and whether the list goes on.
@@ -77,24 +75,6 @@ pub fn next(record: &mut [u8]) -> bool {
     got == record.len()
 }
 
-fn wide(byte: u8) -> u64
-    ensures { λ r. ⌜ (r ≡ byte) × (r < 256) ⌝ }
-{
-    byte as u64
-}
-
-// The four bytes from `at` on, big-endian.
-fn half(bytes: &[u8], at: usize) -> u64
-    requires { ⌜ at + 4 ≤ length (now bytes) ⌝ }
-    ensures { λ r. ⌜ (r ≡ halfAt (now (bytes .entry)) at) × (r < 4294967296) ⌝ }
-{
-    let a = wide(bytes[at]);
-    let b = wide(bytes[at + 1]);
-    let c = wide(bytes[at + 2]);
-    let d = wide(bytes[at + 3]);
-    ((a * 256 + b) * 256 + c) * 256 + d
-}
-
 // The eight bytes from `at` on as a big-endian number, or 0 where there are fewer.
 pub fn word(bytes: &[u8], at: usize) -> u64
     ensures { λ r. ⌜ r ≡ wordAt (now (bytes .entry)) at ⌝ }
@@ -105,7 +85,7 @@ pub fn word(bytes: &[u8], at: usize) -> u64
     if bytes.len() - 8 < at {
         return 0;
     }
-    half(bytes, at) * 4294967296 + half(bytes, at + 4)
+    wire::eight(bytes, at)
 }
 
 // Writes the line: what was compared, how many, how many differ, and the first that does.

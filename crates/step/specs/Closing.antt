@@ -23,6 +23,7 @@ abbrev pub closesAt : Float → Point3D → Point3D → Point3D → Float → Bo
 closesAt confusion start p q along =
     bits 0 ≤? along && (along ≤? bits 0x3FF0_0000_0000_0000 && distanceOf (nearestOf p q along) start ≤? bits 0x4010_0000_0000_0000 ⊗ chordDeviation confusion ⊕ bits 0x4024_0000_0000_0000 ⊗ confusion)
 
+-- the same with `along` worked out: whether the chord from p to q closes the loop
 unfoldable pub closesOf : Float → Point3D → Point3D → Point3D → Bool
 closesOf confusion start p q = closesAt confusion start p q (alongOf start p q)
 

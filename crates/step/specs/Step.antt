@@ -31,6 +31,7 @@ nearStart start p h = distanceOf p start <? bits 0x3FB9_9999_9999_999A ⊗ h
 unfoldable pub cameRound : Float → Point3D → ℕ → Point3D → Point3D → Bool
 cameRound confusion start held p q = leb 3 held && closesOf confusion start p q
 
+-- after an inner step: closed on the start, or onward with the next stride
 unfoldable pub innerStep : Float → Point3D → ℕ → Point3D → Walker → Float → Stepped
 innerStep confusion start held p next h =
     pick (cameRound confusion start held p (next .p)) (Closed (nearStart start p h)) (Onward next (nextStride confusion h (next .curvature)))

@@ -27,13 +27,15 @@ use Rattle.stride.specs.declared.attempt.Walker.{Walker}
 use Rattle.stride.specs.declared.attempt.Tried.{Tried}
 use Rattle.stride.specs.declared.attempt.Tried.the-variants.{Inner, Edge, Nothing}
 
--- the numbers of the rule: 2, 0.05, 4, 32 and 1000
+-- the 2 of `2.0 * h`
 abbrev pub two : Float
 two = bits 0x4000_0000_0000_0000
 
+-- FREE_TURN, 0.05
 abbrev pub freeTurn : Float
 freeTurn = bits 0x3FA9_9999_9999_999A
 
+-- CURVATURE_GROWTH, 4
 abbrev pub curvatureGrowth : Float
 curvatureGrowth = bits 0x4010_0000_0000_0000
 
@@ -45,16 +47,18 @@ chordDeviation confusion = bits 0x408F_4000_0000_0000 ⊗ confusion
 unfoldable pub keptOf : Float → Float → Bool
 keptOf chord h = chord ≤? two ⊗ h && chord ≤? longestChord
 
--- ---- "The step leaves a parameter domain: end on its edge."
+-- ---- the Rust's "The step leaves a parameter domain: end on its edge."
 
 -- (q - p).dot(t) >= 0.0, and the chord
 unfoldable pub onEdge : Walker → Float → Point3D → Bool
 onEdge w h q = bits 0 ≤? dotOf (fromOf q (w .p)) (w .t) && keptOf (distanceOf q (w .p)) h
 
+-- an edge point where `land` found one that may be kept
 abbrev pub afterLanding : Patch → Walker → Float → Met → Tried
 afterLanding a w h (met.At y) = pick (onEdge w h (pointA a y)) (Edge y (pointA a y)) Nothing
 afterLanding a w h met.Nothing = Nothing
 
+-- land(a, b, guess, pin, bound, tol), and what follows
 unfoldable pub landedOf : Patch → Patch → Tolerance → Walker → Float → Parameters → ℕ → Float → Tried
 landedOf a b tol w h guess pin bound = afterLanding a w h (landOf a b guess pin bound tol)
 
@@ -77,29 +81,35 @@ acceptedOf confusion w h ty chord turned = bits 0 <? dotOf ty (w .t) && (keptOf 
 abbrev pub onwardAt : Float → Walker → Float → Parameters → Point3D → Vector3D → Float → Float → Tried
 onwardAt confusion w h y q ty chord turned = pick (acceptedOf confusion w h ty chord turned) (Inner y q ty (turned ⊘ maxOf chord minPositive)) Nothing
 
+-- the same with chord = q.distance(p), and the turn
 unfoldable pub onwardOf : Float → Walker → Float → Parameters → Point3D → Vector3D → Tried
 onwardOf confusion w h y q ty = onwardAt confusion w h y q ty (distanceOf q (w .p)) (turnOf (w .t) ty)
 
+-- tangent(a, b, y, tol).map(|ty| ty * dir), and what follows
 abbrev pub afterTangent : Patch → Float → Float → Walker → Float → Parameters → Direction → Tried
 afterTangent a confusion dir w h y (direction.Along d) = onwardOf confusion w h y (pointA a y) (scaleOf d dir)
 afterTangent a confusion dir w h y direction.Missing = Nothing
 
+-- the tangent at the meeting, where there is one
 abbrev pub afterMeeting : Patch → Patch → Tolerance → Float → Walker → Float → Met → Tried
 afterMeeting a b tol dir w h (met.At y) = afterTangent a (tol .confusion) dir w h y (tangentOf a b y tol)
 afterMeeting a b tol dir w h met.Nothing = Nothing
 
--- "Predict along the tangent, correct onto both surfaces in the plane normal to it"
+-- the Rust's "correct onto both surfaces in the plane normal to it": meet(a, b, guess, Some((p + t * h, t)), tol)
 unfoldable pub innerOf : Patch → Patch → Tolerance → Float → Walker → Float → Parameters → Tried
 innerOf a b tol dir w h guess = afterMeeting a b tol dir w h (meetInPlaneOf a b guess (addVectorOf (w .p) (scaleOf (w .t) h)) (w .t) tol)
 
 -- ---- the whole attempt
 
+-- if let Some((pin, bound)) = leaving(a, b, x, guess): land on the edge, else meet
 abbrev pub towards : Patch → Patch → Tolerance → Float → Walker → Float → Parameters → Exit → Tried
 towards a b tol dir w h guess exit.Nowhere = innerOf a b tol dir w h guess
 towards a b tol dir w h guess (exit.At pin bound) = landedOf a b tol w h guess pin bound
 
+-- guess = predict(a, b, x, t * h)
 abbrev pub predicted : Patch → Patch → Walker → Float → Parameters
 predicted a b w h = predictOf a b (w .x) (scaleOf (w .t) h)
 
+-- an attempt from the walker w with the stride h; dir is 1 forward and -1 backward
 unfoldable pub attemptOf : Patch → Patch → Tolerance → Float → Walker → Float → Tried
 attemptOf a b tol dir w h = towards a b tol dir w h (predicted a b w h) (leavingOf a b (w .x) (predicted a b w h))

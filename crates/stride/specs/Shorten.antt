@@ -14,7 +14,7 @@ use Rattle.stride.specs.declared.shorten.Stride.{Stride}
 use Rattle.stride.specs.declared.shorten.Stride.the-variants as stride
 use Rattle.stride.specs.Attempt.{attemptOf}
 
--- "longest stride 0.1"
+-- H_MAX, 0.1
 abbrev pub longestStride : Float
 longestStride = bits 0x3FB9_9999_9999_999A
 
@@ -28,6 +28,7 @@ afterAttempt h tried.Nothing = on (h ⊗ half)
 abbrev pub strideStep : Patch → Patch → Tolerance → Float → Walker → ℕ → Float → Flow Float Stride
 strideStep a b tol dir w i h = pick (tol .confusion ≤? h) (afterAttempt h (attemptOf a b tol dir w h)) (out stride.Ended)
 
+-- the turns are spent
 abbrev pub noStride : Float → Stride
 noStride h = stride.Ended
 
@@ -35,9 +36,11 @@ noStride h = stride.Ended
 abbrev pub turns : ℕ
 turns = 37
 
+-- the turns from the i-th on
 abbrev pub strideFrom : Patch → Patch → Tolerance → Float → Walker → ℕ → Float → Stride
 strideFrom a b tol dir w i h = searched (strideStep a b tol dir w) noStride i turns (on h)
 
+-- `while h >= tol.confusion`, from the stride h
 unfoldable pub halvingOf : Patch → Patch → Tolerance → Float → Walker → Float → Stride
 halvingOf a b tol dir w h = strideFrom a b tol dir w 0 h
 

@@ -47,6 +47,7 @@ afterStep x points (Closed removed) = out (record { points = x ∷ pick removed 
 afterStep x points (Edge y q) = out (record { points = y ∷ points; closed = false })
 afterStep x points Ended = out (record { points = points; closed = false })
 
+-- one turn of the loop over the steps
 abbrev pub halfStep : Patch → Patch → Tolerance → Float → Parameters → ℕ → Halfway → Flow Halfway Walked
 halfStep a b tol dir x i s = afterStep x (s .points) (stepOf a b tol dir (pointA a x) (length (s .points)) (s .w) (s .h))
 
@@ -54,6 +55,7 @@ halfStep a b tol dir x i s = afterStep x (s .points) (stepOf a b tol dir (pointA
 abbrev pub halfSpent : Halfway → Walked
 halfSpent s = record { points = s .points; closed = false }
 
+-- the steps from the i-th on
 abbrev pub halfFrom : Patch → Patch → Tolerance → Float → Parameters → ℕ → ℕ → Halfway → Walked
 halfFrom a b tol dir x n i s = searched (halfStep a b tol dir x) halfSpent i n (on s)
 

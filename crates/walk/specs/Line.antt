@@ -1,4 +1,4 @@
--- Both halves, and the call. Definitions only.
+-- The line that both halves make. Definitions only.
 use mathlib.Core.Bool.{Bool, _&&_}
 use mathlib.Core.List.{List, [], _∷_, _++_}
 use Prim.Native.Nat.{ℕ, _+_, _*_, _-_}
@@ -19,10 +19,11 @@ pub record Line : Type 0 where
   pub start : ℕ
   pub closing : ℕ
 
--- 1 forward, -1 backward
+-- the direction of the forward half: the Rust's `1.0`
 abbrev pub ahead : Float
 ahead = bits 0x3FF0_0000_0000_0000
 
+-- and of the backward half: `-1.0`
 abbrev pub back : Float
 back = neg ahead
 

@@ -36,19 +36,22 @@ pub record Outcome : Type 0 where
   pub answer : Traced
   pub buffer : List Float
 
--- "the answer holds the count, the start's index and the closing code"; a refusal is its number, 0 where there is none
+-- "A refusal is its number alone"; 0 where there is none
 abbrev pub refusalOf : Traced → ℕ
 refusalOf (Line count start closing) = 0
 refusalOf (Refused r) = numberOf r
 
+-- "The answer holds the count, the start's index and the closing code": the count
 abbrev pub countOf : Traced → ℕ
 countOf (Line count start closing) = count
 countOf (Refused r) = 0
 
+-- the start's index
 abbrev pub startOf : Traced → ℕ
 startOf (Line count start closing) = start
 startOf (Refused r) = 0
 
+-- the closing code
 abbrev pub closingOf : Traced → ℕ
 closingOf (Line count start closing) = closing
 closingOf (Refused r) = 0
@@ -72,16 +75,18 @@ limitsOf tol guess n l =
     (Unfit refusal.Parameter))
     (Unfit refusal.Tolerance)
 
--- "Trace: 1 to 4 for A, the same for B, then 5 to 11"
+-- a surface's refusal, or what is tested next
 abbrev pub afterPatch : Fitness → Fitness → Fitness
 afterPatch Fit next = next
 afterPatch (Unfit r) next = Unfit r
 
+-- "Trace: 1 to 4 for A, the same for B, then 5 to 11": those before 9
 unfoldable pub callFitness : Patch → Patch → Tolerance → Parameters → ℕ → List Float → Fitness
 callFitness a b tol guess n l = afterPatch (fitnessOf a) (afterPatch (fitnessOf b) (limitsOf tol guess n l))
 
 -- ---- the walk, in the first 7(2n+1) numbers
 
+-- 7(2n+1)
 abbrev pub room : ℕ → ℕ
 room n = width * (2 * n + 1)
 
@@ -95,7 +100,7 @@ finishedOf count start closing l =
     pick (ltb count 4) (record { answer = Refused refusal.TooShort; buffer = replicate (length l) zero })
     (record { answer = Line count start closing; buffer = take (width * count) l ++ replicate (length l - width * count) zero })
 
--- 11: "fewer than 4 points"; "Success puts seven numbers a point first; zeros follow up to 7(2n+1)"
+-- 11: "fewer than 4 points"; "Success puts seven numbers a point first"; "zeros follow up to 7(2n+1)"
 unfoldable pub settled : Patch → ℕ → line.Line → Outcome
 settled a n found =
     pick (leb 4 (length (found .points)))
@@ -115,14 +120,17 @@ abbrev pub afterSeed : Patch → Patch → Tolerance → ℕ → Met → Outcome
 afterSeed a b tol n (met.At x) = afterDirection a b tol n x (tangentOf a b x tol)
 afterSeed a b tol n met.Nothing = refusedWalk refusal.NoMeeting n
 
+-- "The seed must be met first": from the guess, by `meet` without a plane
 unfoldable pub walkedOf : Patch → Patch → Tolerance → Parameters → ℕ → Outcome
 walkedOf a b tol guess n = afterSeed a b tol n (meetOf a b guess tol)
 
 -- ---- the call: "refusals before 9 touch nothing"; "beyond that nothing changes"
 
+-- a refusal before 9, or what the walk answers and leaves
 abbrev pub afterCall : Patch → Patch → Tolerance → Parameters → ℕ → List Float → Fitness → Outcome
 afterCall a b tol guess n l (Unfit r) = record { answer = Refused r; buffer = l }
 afterCall a b tol guess n l Fit = record { answer = walkedOf a b tol guess n .answer; buffer = walkedOf a b tol guess n .buffer ++ drop (room n) l }
 
+-- the call: its answer, and the whole buffer after it
 unfoldable pub traceOf : Patch → Patch → Tolerance → Parameters → ℕ → List Float → Outcome
 traceOf a b tol guess n l = afterCall a b tol guess n l (callFitness a b tol guess n l)

@@ -1,12 +1,12 @@
 -- `capi::geomcore_crossing` meets its contract: each way out has its tests, and what it calls its own. Assumes nothing.
 use borrow.Author.Tests.{le-ltb, lt-ltb}
 use borrow.Author.Needs.{needs}
-use Rattle.capi.specs.Crossing.{crossingWord}
+use Rattle.capi.specs.Crossing.{crossingAnswer}
 use Rattle.capi.proofs.geomcore_crossing.Statement.{statement}
 use Rattle.capi.proofs.geomcore_crossing.Tie as tie
 
 returns : tie.Need-returns
-unfolding crossingWord
+unfolding crossingAnswer
 returns c = rw (lt-ltb _ _ (c .if1 .taken))
 
 corner-requires : tie.Need-corner-requires
@@ -22,7 +22,7 @@ crossed-word-requires : tie.Need-crossed-word-requires
 crossed-word-requires c κs = search needs
 
 returns-2 : tie.Need-returns-2
-unfolding crossingWord
+unfolding crossingAnswer
 returns-2 c = rw (le-ltb _ _ (c .before .before .before .before .if1 .left), ← c .before .before .before .corner .ensures, ← c .before .before .corner2 .ensures, ← c .before .crossing .ensures) (c .crossed-word .ensures)
 
 pub geomcore-crossing-spec : {M : Type 1} → statement M

@@ -1,7 +1,8 @@
 -- `certificate::check::answer_at` meets its contract: the point's refusal first, then the chord's; `read` is what the point's tests say of the numbers in the list. Assumes nothing.
 use mathlib.Core.Path.{_≡_}
 use denote.Ref.{now}
-use Rattle.certificate.specs.Passes.{pointAt, parametersAt}
+use Rattle.groups.specs.Row.{pointAt}
+use Rattle.certificate.specs.Passes.{parametersAt}
 use Rattle.certificate.proofs.Turns.{read-answer}
 use Rattle.certificate.specs.Check.{answerAt, pointAnswer}
 use borrow.Author.Needs.{needs}
