@@ -4,7 +4,7 @@ use denote.Ref.{now}
 use Rattle.geometry.specs.Tolerance.{defaultTolerance}
 use Rattle.patch.specs.declared.patch.Patch.{Patch}
 use Rattle.walk.specs.Trace.{Outcome, traceOf}
-use Rattle.number.specs.Helpers.{zero}
+use Rattle.groups.specs.Row.{zero}
 use Rattle.examples.specs.Table.{parameters, movedFrame, unitFrame, squarePlane, nineOf}
 use borrow.Author.Needs.{needs}
 use Rattle.charted.proofs.nine.Statement.{statement}
