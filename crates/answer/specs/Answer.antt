@@ -11,7 +11,7 @@ use Rattle.walk.specs.Trace.{traceOf}
 use Rattle.job.specs.declared.file.JobRead.{JobRead}
 use Rattle.job.specs.declared.file.JobRead.the-variants.{Whole, Refused}
 use Rattle.job.specs.File.{jobOf}
-use Rattle.job.specs.Line.{traceLine, refusedLine}
+use Rattle.line.specs.Line.{traceLine, refusedLine}
 
 -- "It writes one line: `trace`, count, start index, code in decimal, or `refused` and the number."
 unfoldable pub answerLine : Traced → List ℕ

@@ -3,7 +3,7 @@ use job::JobRead;
 use walk::Traced;
 ghost use mathlib.Core.Path.{_≡_};
 ghost use lib.ListN.{length};
-ghost use Rattle.job.specs.Line.{written};
+ghost use Rattle.line.specs.Line.{written};
 ghost use Rattle.answer.specs.Answer.{answerLine, answerOf, jobAnswer};
 
 // Puts the answer's line at the front of the lent bytes; how many it has.
@@ -12,9 +12,9 @@ fn put_line(answer: Traced, line: &mut [u8; 69]) -> usize
 {
     match answer {
         Traced::Line(count, start, code) => {
-            job::line::trace_line(count as u64, start as u64, code as u64, line)
+            line::trace_line(count as u64, start as u64, code as u64, line)
         }
-        Traced::Refused(refusal) => job::line::refused_line(refusal.number(), line),
+        Traced::Refused(refusal) => line::refused_line(refusal.number(), line),
     }
 }
 

@@ -1,13 +1,13 @@
--- `job::line::digits` meets its contract: what is still to be spelled before the digits put down is what was to be spelled. Assumes nothing.
+-- `line::digits` meets its contract: what is still to be spelled before the digits put down is what was to be spelled. Assumes nothing.
 use mathlib.Core.Path.{_≡_, _∙_}
 use Prim.Native.Nat.{_-_, _≤_}
 use native.Mathlib.Omega.{arith}
 use borrow.Author.Needs.{needs}
 use lib.ListN.{length, drop, length-set}
-use Rattle.job.specs.Line.{spell, decimalOf}
-use Rattle.job.proofs.Text.{spell-start, spell-again, spell-found, spell-end}
-use Rattle.job.proofs.line.digits.Statement.{statement}
-use Rattle.job.proofs.line.digits.Tie as tie
+use Rattle.line.specs.Line.{spell, decimalOf}
+use Rattle.line.proofs.Text.{spell-start, spell-again, spell-found, spell-end}
+use Rattle.line.proofs.digits.Statement.{statement}
+use Rattle.line.proofs.digits.Tie as tie
 
 abbrev Inv-loop : tie.InvT-loop
 Inv-loop n text₀ rest₀ i₀ text rest i = (spell (20 - i) rest (drop (20 - i) text) ≡ decimalOf n) × (i ≤ 20) × (length text ≡ 20)

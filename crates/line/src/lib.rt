@@ -1,8 +1,9 @@
+//! The line that answers a job, as ASCII bytes.
 ghost use mathlib.Core.Path.{_≡_};
 ghost use mathlib.Core.List.{_++_};
 ghost use Prim.Native.Nat.{_+_, _≤_, _<_};
 ghost use lib.ListN.{length, drop};
-ghost use Rattle.job.specs.Line.{digitOf, decimalOf, laid, written, traceLine, refusedLine};
+ghost use Rattle.line.specs.Line.{digitOf, decimalOf, laid, written, traceLine, refusedLine};
 
 // How many bytes the longest line has: `trace`, three numbers below 2^64, and what stands between.
 pub const LINE: usize = 69;

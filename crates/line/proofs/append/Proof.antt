@@ -1,9 +1,9 @@
--- `job::line::append` meets its contract: each way out has its tests, and what it calls its own. Assumes nothing.
+-- `line::append` meets its contract: each way out has its tests, and what it calls its own. Assumes nothing.
 use borrow.Author.Needs.{needs}
 use native.Mathlib.Omega.{arith}
-use Rattle.job.proofs.Text.{laid-part}
-use Rattle.job.proofs.line.append.Statement.{statement}
-use Rattle.job.proofs.line.append.Tie as tie
+use Rattle.line.proofs.Text.{laid-part}
+use Rattle.line.proofs.append.Statement.{statement}
+use Rattle.line.proofs.append.Tie as tie
 
 sub-copy : tie.Need-sub-copy
 sub-copy c = search needs

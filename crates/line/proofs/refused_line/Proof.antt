@@ -1,10 +1,10 @@
--- `job::line::refused_line` meets its contract: each way out has its tests, and what it calls its own. Assumes nothing.
+-- `line::refused_line` meets its contract: each way out has its tests, and what it calls its own. Assumes nothing.
 use borrow.Author.Needs.{needs}
 use mathlib.Core.List.{_++_}
-use Rattle.job.specs.Line.{decimalOf, refusedWord, newline}
-use Rattle.job.proofs.Text.{text-first, text-next, refused-line-is}
-use Rattle.job.proofs.line.refused_line.Statement.{statement}
-use Rattle.job.proofs.line.refused_line.Tie as tie
+use Rattle.line.specs.Line.{decimalOf, refusedWord, newline}
+use Rattle.line.proofs.Text.{text-first, text-next, refused-line-is}
+use Rattle.line.proofs.refused_line.Statement.{statement}
+use Rattle.line.proofs.refused_line.Tie as tie
 
 slice-aggregate-append : tie.Need-slice-aggregate-append
 slice-aggregate-append c = search needs

@@ -9,7 +9,7 @@ use borrow.Rule.Slice.PartAt.{part-to-end}
 use borrow.Rule.Slice.PartMut.{putMid, post-is}
 use lib.ListN.{length, take, drop, set, length-append, length-drop}
 use lib.Seq.{take-length, drop-length, drop-drop, drop-at, set-split, length-take-le, take-append-seam, drop-append-seam}
-use Rattle.job.specs.Line.{digitOf, spell, decimalOf, traceWord, refusedWord, space, newline, traceLine, refusedLine, laid, written}
+use Rattle.line.specs.Line.{digitOf, spell, decimalOf, traceWord, refusedWord, space, newline, traceLine, refusedLine, laid, written}
 
 -- ---- the digits of a number, put down from the last to the first
 

@@ -1,8 +1,8 @@
--- `job::line::append_number` meets its contract: each way out has its tests, and what it calls its own. Assumes nothing.
+-- `line::append_number` meets its contract: each way out has its tests, and what it calls its own. Assumes nothing.
 use borrow.Author.Needs.{needs}
-use Rattle.job.proofs.Text.{number-laid}
-use Rattle.job.proofs.line.append_number.Statement.{statement}
-use Rattle.job.proofs.line.append_number.Tie as tie
+use Rattle.line.proofs.Text.{number-laid}
+use Rattle.line.proofs.append_number.Statement.{statement}
+use Rattle.line.proofs.append_number.Tie as tie
 
 slice-aggregate-digits : tie.Need-slice-aggregate-digits
 slice-aggregate-digits c = search needs

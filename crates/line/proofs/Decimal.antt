@@ -7,8 +7,8 @@ use native.Mathlib.Nat.{pow-suc}
 use native.Mathlib.Omega.{arith}
 use borrow.Author.Tests.{ltb-true, ltb-false}
 use lib.Dec.{ltb}
-use Rattle.job.specs.Line.{digitOf, spell, decimalOf, valueOf}
-use Rattle.job.proofs.Text.{spell-more, spell-last}
+use Rattle.line.specs.Line.{digitOf, spell, decimalOf, valueOf}
+use Rattle.line.proofs.Text.{spell-more, spell-last}
 
 cases : {P : Type 0} (t : Bool) → (t ≡ true → P) → (t ≡ false → P) → P
 cases true f g = f refl
