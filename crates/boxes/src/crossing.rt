@@ -1,6 +1,6 @@
 use crate::boxtree::Aabb;
 use crate::marching;
-use geometry::Tolerance;
+use tolerance::Tolerance;
 use groups::row::point_at;
 use refusal::Refusal;
 ghost use mathlib.Core.Path.{_≡_};

@@ -5,7 +5,7 @@ use boxes::Aabb;
 use boxes::Crossed;
 use certificate::Checked;
 use geometry::Point3D;
-use geometry::Tolerance;
+use tolerance::Tolerance;
 use job::JobRead;
 use job::SurfaceRead;
 use patch::Located;

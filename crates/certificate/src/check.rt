@@ -1,5 +1,5 @@
 use geometry::Point3D;
-use geometry::Tolerance;
+use tolerance::Tolerance;
 use groups::Row;
 use groups::row::point_at;
 use groups::row::row_of;

@@ -1,7 +1,7 @@
 use boxes::Aabb;
 use boxes::Crossed;
 use certificate::check::Checked;
-use geometry::Tolerance;
+use tolerance::Tolerance;
 use patch::Located;
 use patch::Parameters;
 use patch::Patch;

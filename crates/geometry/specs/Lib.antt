@@ -1,4 +1,2 @@
-pub mod Tolerance
-pub mod Vector
 pub mod Point
 pub mod Frame

@@ -1,12 +1,7 @@
-//! Tolerances, vectors, points and frames by value: what the walk calls of the Rust's tolerance.rs, vector.rs, point.rs and frame.rs.
-//! Every operation rounds once, in the Rust's order of evaluation. The Rust's operators are methods here: `add` is `+`, `sub` is `-`
-//! between two values, `neg` the unary `-`, and `scale` is `*` by a number, on either side.
+//! Points and frames by value: what the walk calls of the Rust's point.rs and frame.rs. Every operation rounds once, in the Rust's order of
+//! evaluation. The Rust's operators are methods here: `add` is `+`, `sub` is `-` between two points.
 pub mod frame;
 pub mod point;
-pub mod tolerance;
-pub mod vector;
 
 pub use frame::Frame3D;
 pub use point::Point3D;
-pub use tolerance::Tolerance;
-pub use vector::Vector3D;

@@ -8,8 +8,8 @@ use Rattle.number.specs.Operators.{bits}
 use Rattle.number.specs.Helpers.{absOf, maxOf}
 use Rattle.sqrt.specs.Sqrt.{sqrtOf}
 use Rattle.geometry.specs.declared.frame.Frame3D.{Frame3D}
-use Rattle.geometry.specs.Tolerance.{defaultTolerance}
-use Rattle.geometry.specs.Vector.{vectorOf, zeroVector, dotOf, crossOf, squareMagnitudeOf, magnitudeOf, negOf, scaleOf}
+use Rattle.tolerance.specs.Tolerance.{defaultTolerance}
+use Rattle.vector.specs.Vector.{vectorOf, zeroVector, dotOf, crossOf, squareMagnitudeOf, magnitudeOf, negOf, scaleOf}
 use Rattle.geometry.specs.Point.{pointOf, fromOf, addVectorOf}
 use Rattle.geometry.specs.Frame.{pointAtOf}
 use Rattle.analytic.specs.declared.surface.Surface.the-variants.{Plane}

@@ -17,10 +17,10 @@ use Rattle.number.proofs.Values.{Is, whole}
 use Rattle.number.proofs.Order.{le-self, le-numbers, le-through}
 use Rattle.number.proofs.Scaling.{tenth-le}
 use Rattle.geometry.specs.declared.point.Point3D.{Point3D}
-use Rattle.geometry.specs.declared.vector.Vector3D.{Vector3D}
-use Rattle.geometry.specs.declared.tolerance.Tolerance.{Tolerance}
-use Rattle.geometry.specs.Tolerance.{leastConfusion, toleranceFit}
-use Rattle.geometry.specs.Vector.{magnitudeOf}
+use Rattle.vector.specs.declared.Vector3D.{Vector3D}
+use Rattle.tolerance.specs.declared.Tolerance.{Tolerance}
+use Rattle.tolerance.specs.Tolerance.{leastConfusion, toleranceFit}
+use Rattle.vector.specs.Vector.{magnitudeOf}
 use Rattle.geometry.specs.Point.{fromOf, distanceOf}
 use Rattle.gap.proofs.Gap.{magnitude-is-gap, fit-tolerance, finite-between, large, gap-finite, PointFinite}
 use Rattle.patch.specs.declared.patch.Patch.{Patch}

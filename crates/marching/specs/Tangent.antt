@@ -4,9 +4,9 @@ use lib.Ieee.{Float}
 use Rattle.loops.specs.Loop.{pick}
 use Rattle.number.specs.Operators.{bits, _⊕_, _⊗_, _⊘_, _≤?_}
 use Rattle.number.specs.Helpers.{one, minPositive, maxOf}
-use Rattle.geometry.specs.declared.vector.Vector3D.{Vector3D}
-use Rattle.geometry.specs.declared.tolerance.Tolerance.{Tolerance}
-use Rattle.geometry.specs.Vector.{dotOf, crossOf, magnitudeOf, scaleOf}
+use Rattle.vector.specs.declared.Vector3D.{Vector3D}
+use Rattle.tolerance.specs.declared.Tolerance.{Tolerance}
+use Rattle.vector.specs.Vector.{dotOf, crossOf, magnitudeOf, scaleOf}
 use Rattle.patch.specs.declared.patch.Patch.{Patch}
 use Rattle.patch.specs.declared.patch.Parameters.{Parameters}
 use Rattle.analytic.specs.declared.analytic.Derivatives.{Derivatives}

@@ -2,8 +2,8 @@
 use analytic::Derivatives;
 use cramer::Solution2;
 use cramer::Solved2;
-use geometry::Tolerance;
-use geometry::Vector3D;
+use tolerance::Tolerance;
+use vector::Vector3D;
 use patch::Parameters;
 use patch::Patch;
 ghost use mathlib.Core.Path.{_≡_};

@@ -6,9 +6,9 @@ use lib.ListN.{getD}
 use lib.Ieee.{Float, neg}
 use Rattle.loops.specs.Loop.{pick}
 use Rattle.number.specs.Operators.{bits, _⊕_, _⊗_}
-use Rattle.geometry.specs.declared.vector.Vector3D.{Vector3D}
+use Rattle.vector.specs.declared.Vector3D.{Vector3D}
 use Rattle.geometry.specs.declared.point.Point3D.{Point3D}
-use Rattle.geometry.specs.Vector.{vectorOf, dotOf, negOf}
+use Rattle.vector.specs.Vector.{vectorOf, dotOf, negOf}
 use Rattle.geometry.specs.Point.{fromOf}
 use Rattle.patch.specs.declared.patch.Patch.{Patch}
 use Rattle.patch.specs.declared.patch.Parameters.{Parameters}

@@ -2,7 +2,7 @@
 use crate::parameters::parameter;
 use crate::parameters::with_parameter;
 use geometry::Point3D;
-use geometry::Vector3D;
+use vector::Vector3D;
 use patch::Parameters;
 use patch::Patch;
 use solve::Solution3;

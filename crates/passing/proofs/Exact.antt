@@ -3,7 +3,7 @@ use Prim.Native.Nat.{ℕ, _<_}
 use mathlib.Core.List.{List}
 use lib.Dec.{T}
 use lib.Ieee.{Float, binary64, fits}
-use Rattle.geometry.specs.declared.tolerance.Tolerance.{Tolerance}
+use Rattle.tolerance.specs.declared.Tolerance.{Tolerance}
 use Rattle.gap.specs.Gap.{ExactlyWithin}
 use Rattle.gap.proofs.Gap.{exact-gap, fit-tolerance}
 use Rattle.patch.specs.declared.patch.Patch.{Patch}

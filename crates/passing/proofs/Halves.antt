@@ -11,8 +11,8 @@ use Rattle.loops.specs.Loop.{pick, Flow, on, out, searched}
 use Rattle.loops.proofs.Loop.{Kept, searched-keeps-at}
 use Rattle.number.specs.Operators.{_≤?_}
 use Rattle.geometry.specs.declared.point.Point3D.{Point3D}
-use Rattle.geometry.specs.declared.vector.Vector3D.{Vector3D}
-use Rattle.geometry.specs.declared.tolerance.Tolerance.{Tolerance}
+use Rattle.vector.specs.declared.Vector3D.{Vector3D}
+use Rattle.tolerance.specs.declared.Tolerance.{Tolerance}
 use Rattle.geometry.specs.Point.{distanceOf, longestChord}
 use Rattle.gap.proofs.Gap.{distance-swap}
 use Rattle.patch.specs.declared.patch.Patch.{Patch}

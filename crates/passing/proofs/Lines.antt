@@ -10,8 +10,8 @@ use lib.Ieee.{Float, binary64, fits}
 use lib.ListN.{length, getD, length-append, length-reverse, List·getD-append}
 use lib.Seq.{getD-append-seam}
 use Rattle.loops.specs.Loop.{pick}
-use Rattle.geometry.specs.declared.vector.Vector3D.{Vector3D}
-use Rattle.geometry.specs.declared.tolerance.Tolerance.{Tolerance}
+use Rattle.vector.specs.declared.Vector3D.{Vector3D}
+use Rattle.tolerance.specs.declared.Tolerance.{Tolerance}
 use Rattle.patch.specs.declared.patch.Patch.{Patch}
 use Rattle.patch.specs.declared.patch.Parameters.{Parameters}
 use Rattle.good.specs.Good.{Good}

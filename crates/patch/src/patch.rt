@@ -1,6 +1,6 @@
 use analytic::Surface;
 use geometry::Frame3D;
-use geometry::Vector3D;
+use vector::Vector3D;
 use refusal::Refusal;
 ghost use mathlib.Core.Path.{_≡_};
 ghost use Rattle.patch.specs.Patch.{vectorFit, frameFit, oneFits, bothFit, bothPositive, coneFits, numbersFit, sizesFit, uIsAngle, vIsAngle, windowFit, markFit, fitnessOf, windowHolds, insideOf, boundedOf, withinBounds};

@@ -6,11 +6,11 @@ use lib.Ieee.{Float, nan}
 use Rattle.loops.specs.Loop.{pick}
 use Rattle.number.specs.Operators.{bits, _<?_}
 use Rattle.geometry.specs.declared.point.Point3D.{Point3D}
-use Rattle.geometry.specs.declared.vector.Vector3D.{Vector3D}
+use Rattle.vector.specs.declared.Vector3D.{Vector3D}
 use Rattle.geometry.specs.declared.frame.Frame3D.{Frame3D}
-use Rattle.geometry.specs.declared.tolerance.Tolerance.{Tolerance}
+use Rattle.tolerance.specs.declared.Tolerance.{Tolerance}
 use Rattle.geometry.specs.Point.{pointOf}
-use Rattle.geometry.specs.Vector.{vectorOf}
+use Rattle.vector.specs.Vector.{vectorOf}
 use Rattle.analytic.specs.declared.surface.Surface.{Surface}
 use Rattle.analytic.specs.declared.surface.Surface.the-variants.{Plane, Cylinder, Cone, Sphere, Torus}
 use Rattle.patch.specs.declared.patch.Window.{Window}

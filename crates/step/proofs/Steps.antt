@@ -12,10 +12,10 @@ use Rattle.loops.proofs.Loop.{Kept, searched-keeps}
 use Rattle.number.specs.Operators.{bits, _⊗_, _⊘_, _<?_, _≤?_}
 use Rattle.number.specs.Helpers.{maxOf, minPositive}
 use Rattle.geometry.specs.declared.point.Point3D.{Point3D}
-use Rattle.geometry.specs.declared.vector.Vector3D.{Vector3D}
-use Rattle.geometry.specs.declared.tolerance.Tolerance.{Tolerance}
-use Rattle.geometry.specs.Tolerance.{toleranceFit}
-use Rattle.geometry.specs.Vector.{dotOf, scaleOf}
+use Rattle.vector.specs.declared.Vector3D.{Vector3D}
+use Rattle.tolerance.specs.declared.Tolerance.{Tolerance}
+use Rattle.tolerance.specs.Tolerance.{toleranceFit}
+use Rattle.vector.specs.Vector.{dotOf, scaleOf}
 use Rattle.geometry.specs.Point.{distanceOf, longestChord, fromOf, addVectorOf}
 use Rattle.patch.specs.declared.patch.Patch.{Patch}
 use Rattle.patch.specs.declared.patch.Parameters.{Parameters}

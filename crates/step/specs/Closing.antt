@@ -5,7 +5,7 @@ use Rattle.number.specs.Operators.{bits, _⊕_, _⊗_, _⊘_, _≤?_}
 use Rattle.number.specs.Helpers.{maxOf, minOf, minPositive}
 use Rattle.sqrt.specs.Sqrt.{sqrtOf}
 use Rattle.geometry.specs.declared.point.Point3D.{Point3D}
-use Rattle.geometry.specs.Vector.{dotOf, scaleOf}
+use Rattle.vector.specs.Vector.{dotOf, scaleOf}
 use Rattle.geometry.specs.Point.{distanceOf, addVectorOf, fromOf}
 use Rattle.stride.specs.Attempt.{two, chordDeviation}
 use Rattle.stride.specs.Shorten.{longestStride}

@@ -7,7 +7,7 @@ use Rattle.loops.specs.Loop.{pick}
 use Rattle.number.specs.Operators.{bits, _⊗_, _<?_}
 use Rattle.number.specs.Helpers.{maxOf}
 use Rattle.geometry.specs.declared.point.Point3D.{Point3D}
-use Rattle.geometry.specs.declared.tolerance.Tolerance.{Tolerance}
+use Rattle.tolerance.specs.declared.Tolerance.{Tolerance}
 use Rattle.geometry.specs.Point.{distanceOf}
 use Rattle.patch.specs.declared.patch.Patch.{Patch}
 use Rattle.patch.specs.declared.patch.Parameters.{Parameters}

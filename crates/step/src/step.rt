@@ -2,7 +2,7 @@
 use crate::closing::closes;
 use crate::closing::next_stride;
 use geometry::Point3D;
-use geometry::Tolerance;
+use tolerance::Tolerance;
 use patch::Parameters;
 use patch::Patch;
 use stride::Stride;

@@ -19,8 +19,8 @@ use Rattle.number.specs.Helpers.{half}
 use Rattle.number.proofs.Values.{Is, is-own, whole}
 use Rattle.number.proofs.Order.{le-through, le→units}
 use Rattle.number.proofs.Scaling.{half-exact}
-use Rattle.geometry.specs.declared.tolerance.Tolerance.{Tolerance}
-use Rattle.geometry.specs.Tolerance.{leastConfusion, toleranceFit}
+use Rattle.tolerance.specs.declared.Tolerance.{Tolerance}
+use Rattle.tolerance.specs.Tolerance.{leastConfusion, toleranceFit}
 use Rattle.gap.proofs.Gap.{fit-tolerance, large}
 use Rattle.patch.specs.declared.patch.Patch.{Patch}
 use Rattle.stride.specs.declared.attempt.Walker.{Walker}

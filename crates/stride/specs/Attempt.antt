@@ -6,10 +6,10 @@ use Rattle.loops.specs.Loop.{pick}
 use Rattle.number.specs.Operators.{bits, _⊗_, _⊘_, _<?_, _≤?_}
 use Rattle.number.specs.Helpers.{minPositive, maxOf}
 use Rattle.fdlibm.specs.Arctangent.{atan2Of}
-use Rattle.geometry.specs.declared.vector.Vector3D.{Vector3D}
+use Rattle.vector.specs.declared.Vector3D.{Vector3D}
 use Rattle.geometry.specs.declared.point.Point3D.{Point3D}
-use Rattle.geometry.specs.declared.tolerance.Tolerance.{Tolerance}
-use Rattle.geometry.specs.Vector.{dotOf, crossOf, magnitudeOf, scaleOf}
+use Rattle.tolerance.specs.declared.Tolerance.{Tolerance}
+use Rattle.vector.specs.Vector.{dotOf, crossOf, magnitudeOf, scaleOf}
 use Rattle.geometry.specs.Point.{distanceOf, longestChord, addVectorOf, fromOf}
 use Rattle.patch.specs.declared.patch.Patch.{Patch}
 use Rattle.patch.specs.declared.patch.Parameters.{Parameters}

@@ -4,8 +4,8 @@ use lib.Ieee.{Float}
 use Rattle.loops.specs.Loop.{pick, Flow, on, out, searched}
 use Rattle.number.specs.Operators.{bits, _⊗_, _≤?_}
 use Rattle.number.specs.Helpers.{half}
-use Rattle.geometry.specs.declared.tolerance.Tolerance.{Tolerance}
-use Rattle.geometry.specs.Tolerance.{toleranceFit}
+use Rattle.tolerance.specs.declared.Tolerance.{Tolerance}
+use Rattle.tolerance.specs.Tolerance.{toleranceFit}
 use Rattle.patch.specs.declared.patch.Patch.{Patch}
 use Rattle.stride.specs.declared.attempt.Walker.{Walker}
 use Rattle.stride.specs.declared.attempt.Tried.{Tried}

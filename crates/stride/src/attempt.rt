@@ -1,7 +1,7 @@
 // One attempt at a stride of a given length: the body of the Rust's `while h >= tol.confusion`.
 use geometry::Point3D;
-use geometry::Tolerance;
-use geometry::Vector3D;
+use tolerance::Tolerance;
+use vector::Vector3D;
 use marching::Direction;
 use marching::Exit;
 use marching::leaving::leaving;

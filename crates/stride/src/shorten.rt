@@ -3,14 +3,14 @@ use crate::attempt::Tried;
 use crate::attempt::Walker;
 use crate::attempt::attempt;
 use geometry::Point3D;
-use geometry::Tolerance;
-use geometry::Vector3D;
+use tolerance::Tolerance;
+use vector::Vector3D;
 use patch::Parameters;
 use patch::Patch;
 ghost use mathlib.Core.Path.{_≡_};
 ghost use lib.Dec.{T};
 ghost use Rattle.number.specs.Operators.{_≤?_};
-ghost use Rattle.geometry.specs.Tolerance.{toleranceFit};
+ghost use Rattle.tolerance.specs.Tolerance.{toleranceFit};
 ghost use Rattle.stride.specs.Shorten.{longestStride, halvingOf, strideOf};
 
 // What the walk does next: a step to an inner point, with the direction, the curvature and the stride's length; a landing on a window's

@@ -16,8 +16,8 @@ use Rattle.groups.specs.Row.{numbersOf}
 use Rattle.groups.specs.Row as row
 use Rattle.refusal.specs.declared.Refusal.the-variants as refusal
 use Rattle.groups.specs.declared.row.Row.{Row}
-use Rattle.geometry.specs.declared.vector.Vector3D.{Vector3D}
-use Rattle.geometry.specs.declared.tolerance.Tolerance.{Tolerance}
+use Rattle.vector.specs.declared.Vector3D.{Vector3D}
+use Rattle.tolerance.specs.declared.Tolerance.{Tolerance}
 use Rattle.patch.specs.declared.patch.Patch.{Patch}
 use Rattle.patch.specs.declared.patch.Parameters.{Parameters}
 use Rattle.walk.specs.Lent.{placed, turnedOf, joinedOf, ownRow, rowsOf}

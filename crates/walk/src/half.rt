@@ -2,8 +2,8 @@
 use crate::lent::put;
 use crate::lent::row_for;
 use geometry::Point3D;
-use geometry::Tolerance;
-use geometry::Vector3D;
+use tolerance::Tolerance;
+use vector::Vector3D;
 use patch::Parameters;
 use patch::Patch;
 use step::Stepped;

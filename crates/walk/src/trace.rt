@@ -2,7 +2,7 @@
 use crate::answer::Traced;
 use crate::lent::clear;
 use crate::line::line;
-use geometry::Tolerance;
+use tolerance::Tolerance;
 use groups::WIDTH;
 use marching::Direction;
 use marching::tangent::tangent;

@@ -1,7 +1,7 @@
 -- `charted::nine` meets its contract: that of the trace it calls. Assumes nothing.
 use mathlib.Core.Path.{_≡_, ap, _∙_}
 use denote.Ref.{now}
-use Rattle.geometry.specs.Tolerance.{defaultTolerance}
+use Rattle.tolerance.specs.Tolerance.{defaultTolerance}
 use Rattle.patch.specs.declared.patch.Patch.{Patch}
 use Rattle.walk.specs.Trace.{Outcome, traceOf}
 use Rattle.groups.specs.Row.{zero}

@@ -1,5 +1,5 @@
 -- `charted::unit_frame` meets its contract. Assumes nothing.
-use Rattle.geometry.specs.Vector.{zeroVector}
+use Rattle.vector.specs.Vector.{zeroVector}
 use borrow.Author.Needs.{needs}
 use Rattle.charted.proofs.unit_frame.Statement.{statement}
 use Rattle.charted.proofs.unit_frame.Tie as tie
