@@ -1,6 +1,7 @@
 #!/usr/bin/env bash
 # compare_all.sh SEED COUNT: builds the archives and the oracle and compares everything that is compared with the outside, COUNT cases of
-# each function or kind. Prints a table; what each comparison writes is kept under target/compare_all. Ends non-zero on any difference.
+# each function or kind and ten times as many of the square root, sine, cosine and arc tangents. Prints a table; what each comparison writes is
+# kept under target/compare_all. Ends non-zero on any difference.
 set -euo pipefail
 cd "$(dirname "$0")/.."
 if [ $# -ne 2 ]; then
@@ -33,6 +34,6 @@ run() {
 for part in fdlibm solve surface patch marching crossing trace check; do
     run "$part" oracle/target/release/compare "$part" "$seed" "$count"
 done
-run sqrt tools/compare_sqrt.sh "$seed" "$count"
-run strictmath tools/compare_fdlibm.sh "$seed" "$count"
+run sqrt tools/compare_sqrt.sh "$seed" $((10 * count))
+run strictmath tools/compare_fdlibm.sh "$seed" $((10 * count))
 exit $status
