@@ -7,6 +7,11 @@ use vector::Vector3D;
 use patch::Parameters;
 use patch::Patch;
 ghost use mathlib.Core.Path.{_≡_};
+ghost use mathlib.Core.Bool.{true};
+ghost use lib.Dec.{T};
+ghost use Rattle.number.specs.Operators.{bits, _⊗_, _≤?_};
+ghost use Rattle.number.specs.Helpers.{minPositive, maxOf};
+ghost use Rattle.sqrt.specs.Sqrt.{sqrtOf};
 ghost use Rattle.marching.specs.Tangent.{normalOf, unitCross, tangentOf, movedBy, orNothing, predictOf};
 
 pub enum Direction {
@@ -25,14 +30,42 @@ fn normal(patch: Patch, u: f64, v: f64) -> Vector3D
     du.cross(dv)
 }
 
+// From the smallest normal number to 2^20.
+fn moderate(x: f64) -> bool
+    ensures { λ r. ⌜ (r ≡ true → T (minPositive ≤? x) × T (x ≤? bits 0x4130_0000_0000_0000)) ⌝ }
+{
+    if number::MIN_POSITIVE <= x {
+        x <= 1048576.0
+    } else {
+        false
+    }
+}
+
+// Whether the length is at most angular times the product of the roots of a and b, or times the smallest normal number if that is greater.
+// Of moderate numbers the product is at most 2^20, which mostly tells it without the roots.
+fn parallel(a: f64, b: f64, length: f64, angular: f64) -> bool
+    ensures { λ r. ⌜ r ≡ (length ≤? angular ⊗ maxOf (sqrtOf a ⊗ sqrtOf b) minPositive) ⌝ }
+{
+    if moderate(a) {
+        if moderate(b) {
+            if moderate(angular) {
+                if angular * 1048576.0 < length {
+                    return false;
+                }
+            }
+        }
+    }
+    let scale = sqrt::sqrt(a) * sqrt::sqrt(b);
+    length <= angular * number::max(scale, number::MIN_POSITIVE)
+}
+
 // The unit vector along na x nb, unless that is too short beside |na||nb|.
 fn unit_cross(na: Vector3D, nb: Vector3D, angular: f64) -> Direction
     ensures { λ r. ⌜ r ≡ unitCross na nb angular ⌝ }
 {
     let t = na.cross(nb);
     let length = t.magnitude();
-    let scale = na.magnitude() * nb.magnitude();
-    if length <= angular * number::max(scale, number::MIN_POSITIVE) {
+    if parallel(na.dot(na), nb.dot(nb), length, angular) {
         Direction::Missing
     } else {
         Direction::Along(t.scale(1.0 / length))

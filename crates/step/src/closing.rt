@@ -35,10 +35,16 @@ pub fn first_stride(confusion: f64) -> f64
     number::min(sqrt::sqrt(8.0 * (1000.0 * confusion)), 0.1)
 }
 
-// The length to try after a stride of length h: twice that, at most 0.1, and short enough for the curvature.
+// The length to try after a stride of length h: twice that, at most 0.1, and short enough for the curvature. Where that does not bend the
+// line, no root is taken.
 pub fn next_stride(confusion: f64, h: f64, curvature: f64) -> f64
     ensures { λ r. ⌜ r ≡ nextStride confusion h curvature ⌝ }
 {
     let bend = 8.0 * (1000.0 * confusion) / number::max(curvature, number::MIN_POSITIVE);
-    number::min(number::min(2.0 * h, 0.1), sqrt::sqrt(bend))
+    let longest = number::min(2.0 * h, 0.1);
+    if sqrt::at_most(bend, longest) {
+        number::min(longest, sqrt::sqrt(bend))
+    } else {
+        longest
+    }
 }

@@ -1,8 +1,17 @@
 -- `marching::tangent::unit_cross` meets its contract: each way out has its tests, and what it calls its own. Assumes nothing.
 use borrow.Author.Needs.{needs}
+use mathlib.Core.Path.{_≡_, refl}
+use Rattle.sqrt.specs.Sqrt.{sqrtOf}
+use Rattle.geometry.specs.declared.vector.Vector3D.{Vector3D}
+use Rattle.geometry.specs.Vector.{dotOf, squareMagnitudeOf, magnitudeOf}
 use Rattle.marching.specs.Tangent.{unitCross}
 use Rattle.marching.proofs.tangent.unit_cross.Statement.{statement}
 use Rattle.marching.proofs.tangent.unit_cross.Tie as tie
+
+-- a magnitude is the root of a vector's product with itself
+root-of : (v : Vector3D) → magnitudeOf v ≡ sqrtOf (dotOf v v)
+unfolding dotOf squareMagnitudeOf magnitudeOf
+root-of v = refl
 
 cross-requires : tie.Need-cross-requires
 cross-requires c κs = search needs
@@ -10,25 +19,33 @@ cross-requires c κs = search needs
 magnitude-requires : tie.Need-magnitude-requires
 magnitude-requires c κs = search needs
 
-magnitude-requires-2 : tie.Need-magnitude-requires-2
-magnitude-requires-2 c κs = search needs
+dot-requires : tie.Need-dot-requires
+dot-requires c κs = search needs
 
-magnitude-requires-3 : tie.Need-magnitude-requires-3
-magnitude-requires-3 c κs = search needs
+dot-requires-2 : tie.Need-dot-requires-2
+dot-requires-2 c κs = search needs
 
-max-requires : tie.Need-max-requires
-max-requires c κs = search needs
+parallel-requires : tie.Need-parallel-requires
+parallel-requires c κs = search needs
 
 scale-requires : tie.Need-scale-requires
 scale-requires c κs = search needs
 
 returns : tie.Need-returns
 unfolding unitCross
-returns c = rw (← c .before .before .before .before .before .cross .ensures, ← c .before .before .before .before .magnitude .ensures, ← c .before .before .before .magnitude2 .ensures, ← c .before .before .magnitude3 .ensures, ← c .before .max .ensures, c .if1 .taken)
+returns c =
+    let p = c .before in
+    let s = p .before .before .before .before .before in
+    rw (← p .before .before .before .before .cross .ensures, ← p .before .before .before .magnitude .ensures, root-of (s .args .na), root-of (s .args .nb), ← p .before .before .dot .ensures, ← p .before .dot2 .ensures, ← p .parallel .ensures, c .if1 .taken)
 
 returns-2 : tie.Need-returns-2
 unfolding unitCross
-returns-2 c = rw (← c .before .before .before .before .before .before .cross .ensures, ← c .before .before .before .before .before .magnitude .ensures, ← c .before .before .before .before .magnitude2 .ensures, ← c .before .before .before .magnitude3 .ensures, ← c .before .before .max .ensures, c .before .if1 .left, ← c .scale .ensures)
+returns-2 c =
+    let p = c .before .before in
+    let s = p .before .before .before .before .before in
+    rw (← p .before .before .before .before .cross .ensures, ← p .before .before .before .magnitude .ensures, root-of (s .args .na), root-of (s .args .nb), ← p .before .before .dot .ensures, ← p .before .dot2 .ensures, ← p .parallel .ensures, c .before .if1 .left, ← c .scale .ensures)
 
 pub unit-cross-spec : {M : Type 1} → statement M
-unit-cross-spec = tie.close (tie.spec cross-requires magnitude-requires magnitude-requires-2 magnitude-requires-3 max-requires scale-requires returns returns-2)
+unit-cross-spec =
+    tie.close
+    (tie.spec cross-requires magnitude-requires dot-requires dot-requires-2 parallel-requires scale-requires returns returns-2)

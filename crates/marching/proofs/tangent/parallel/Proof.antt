@@ -1,0 +1,49 @@
+-- `marching::tangent::parallel` meets its contract: the quick test of `Parallel`, or the roots. Assumes nothing.
+use borrow.Author.Needs.{needs}
+use mathlib.Core.Path.{_≡_, sym, subst}
+use mathlib.Core.Bool.{Bool, true}
+use lib.Dec.{T}
+use Rattle.marching.proofs.Parallel.{Moderate, not-parallel}
+use Rattle.marching.proofs.tangent.parallel.Statement.{statement}
+use Rattle.marching.proofs.tangent.parallel.Tie as tie
+
+holds : {b : Bool} → b ≡ true → T b
+holds e = subst T (sym e) tt
+
+moderate-requires : tie.Need-moderate-requires
+moderate-requires c κs = search needs
+
+moderate-requires-2 : tie.Need-moderate-requires-2
+moderate-requires-2 c κs = search needs
+
+moderate-requires-3 : tie.Need-moderate-requires-3
+moderate-requires-3 c κs = search needs
+
+returns : tie.Need-returns
+returns c =
+    let third = c .before .before in
+    let second = third .before .before in
+    let first = second .before .before in
+    let s = first .before in
+    let a = first .moderate .ensures (second .before .if1 .taken) in
+    let b = second .moderate2 .ensures (third .before .if2 .taken) in
+    let g = third .moderate3 .ensures (c .before .if3 .taken) in
+    sym
+    (not-parallel (s .args .a) (s .args .b) (record { fit = holds (s .good .0 .1); least = a .0; most = a .1 }) (record { fit = holds (s .good .1 .0 .1); least = b .0; most = b .1 }) (s .args .angular) (s .args .length) (record { fit = holds (s .good .1 .1 .1 .0 .1); least = g .0; most = g .1 }) (holds (c .if4 .taken)))
+
+sqrt-requires : tie.Need-sqrt-requires
+sqrt-requires c κs = search needs
+
+sqrt-requires-2 : tie.Need-sqrt-requires-2
+sqrt-requires-2 c κs = search needs
+
+max-requires : tie.Need-max-requires
+max-requires c κs = search needs
+
+returns-2 : tie.Need-returns-2
+returns-2 c = rw (c .max .ensures, c .before .sqrt2 .ensures, c .before .before .sqrt .ensures)
+
+pub parallel-spec : {M : Type 1} → statement M
+parallel-spec =
+    tie.close
+    (tie.spec moderate-requires moderate-requires-2 moderate-requires-3 returns sqrt-requires sqrt-requires-2 max-requires returns-2)
