@@ -16,6 +16,8 @@ use Rattle.loops.proofs.Loop.{searched-out, searched-end, searched-step}
 use Rattle.number.specs.Operators.{_≤?_}
 use Rattle.groups.specs.Groups.{width, holdsOf}
 use Rattle.groups.specs.declared.row.Row.{Row}
+use denote.Floats.{passes}
+use Rattle.loops.proofs.Some.{cases}
 use Rattle.groups.specs.Row.{rowAt, rowOf, pointAt}
 use Rattle.groups.proofs.Groups.{holds-length}
 use Rattle.groups.proofs.Rows.{row-there}
@@ -48,13 +50,6 @@ unpassed e = let z : _≡_ {A = ℕ} 0 1 = ap sign e in omega arith
 untrue : _≡_ {A = Bool} false true → ⊥
 untrue e = let z : _≡_ {A = ℕ} 0 1 = ap (λ (t : Bool). pick t 1 0) e in omega arith
 
-holds : {t : Bool} → t ≡ true → T t
-holds e = subst T (sym e) tt
-
-cases : {P : Type 0} (t : Bool) → (t ≡ true → P) → (t ≡ false → P) → P
-cases true f g = f refl
-cases false f g = g refl
-
 -- ---- one point
 
 module _ (a b : Patch) (tol : Tolerance) (l : List Float) (count closing : ℕ) where
@@ -66,7 +61,7 @@ module _ (a b : Patch) (tol : Tolerance) (l : List Float) (count closing : ℕ) 
   unfolding chordFits
   chord-tested i e h n =
       let z : eqb i 0 ≡ false = ne-eqb i 0 (λ q. omega arith) in
-      holds (sym (ap (λ (t : Bool). pick t true (pick (closingChord count closing i) true (distanceOf (pointAt l i) (pointAt l (i - 1)) ≤? longestChord))) z ∙ ap (λ (t : Bool). pick t true (distanceOf (pointAt l i) (pointAt l (i - 1)) ≤? longestChord)) n) ∙ e)
+      passes _ (sym (ap (λ (t : Bool). pick t true (pick (closingChord count closing i) true (distanceOf (pointAt l i) (pointAt l (i - 1)) ≤? longestChord))) z ∙ ap (λ (t : Bool). pick t true (distanceOf (pointAt l i) (pointAt l (i - 1)) ≤? longestChord)) n) ∙ e)
 
   chord-fits : (i : ℕ) → Chord i → chordFits l count closing i ≡ true
   unfolding chordFits
@@ -114,7 +109,7 @@ module _ (a b : Patch) (tol : Tolerance) (l : List Float) (count closing : ℕ) 
   point-passes i d e =
       let x = parametersAt l i in
       let s = stages (insideOf a b x) (ownOf (pointAt l i) (pointA a x)) (distanceOf (pointA a x) (pointB b x) ≤? tol .confusion) (chordFits l count closing i) i e in
-      (own-of i d (holds (s .0)) (holds (s .1)) (holds (s .2)), chord-tested i (s .3))
+      (own-of i d (passes _ (s .0)) (passes _ (s .1)) (passes _ (s .2)), chord-tested i (s .3))
 
   passes-point : (i : ℕ) → PointPasses a b tol l i → Chord i → answerAt a b (tol .confusion) l count closing i ≡ Passed
   unfolding answerAt pointAnswer
@@ -164,7 +159,7 @@ module _ (l : List Float) (count start closing : ℕ) (lent : width * count ≤ 
   row-is i h = row-there l i (omega arith)
 
   rows-same : (i j : ℕ) → i < count → j < count → Binary64 l → sameRow (rowOf l i) (rowOf l j) ≡ true → rowAt l i ≡ rowAt l j
-  rows-same i j h k d e = row-equal l i j d (holds (ap (λ (r : Row). sameRow r (rowAt l j)) (sym (row-is i h)) ∙ ap (sameRow (rowOf l i)) (sym (row-is j k)) ∙ e))
+  rows-same i j h k d e = row-equal l i j d (passes _ (ap (λ (r : Row). sameRow r (rowAt l j)) (sym (row-is i h)) ∙ ap (sameRow (rowOf l i)) (sym (row-is j k)) ∙ e))
 
   same-rows : (i j : ℕ) → i < count → j < count → rowAt l i ≡ rowAt l j → sameRow (rowOf l i) (rowOf l j) ≡ true
   same-rows i j h k e = rw (row-is i h, row-is j k) (is-true _ (equal-row (rowAt l i) (rowAt l j) e))
@@ -261,7 +256,7 @@ module _ (a b : Patch) (tol : Tolerance) (l : List Float) (count start closing :
       record {
         fitA = s .0;
         fitB = s .1;
-        tolerance = holds (s .2);
+        tolerance = passes _ (s .2);
         lent = n;
         least = c .0;
         most = c .1;

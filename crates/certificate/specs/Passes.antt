@@ -11,7 +11,6 @@ use Rattle.loops.specs.Loop.{pick}
 use Rattle.number.specs.Operators.{_≤?_}
 use Rattle.groups.specs.Groups.{width}
 use Rattle.groups.specs.Row.{rowAt, pointAt}
-use Rattle.geometry.specs.declared.point.Point3D.{Point3D}
 use Rattle.tolerance.specs.declared.Tolerance.{Tolerance}
 use Rattle.geometry.specs.Point.{distanceOf, longestChord}
 use Rattle.tolerance.specs.Tolerance.{toleranceFit}

@@ -20,7 +20,6 @@ use Rattle.marching.specs.Leaving.{leavingOf}
 use Rattle.boxes.specs.declared.boxtree.Aabb.{Aabb}
 use Rattle.boxes.specs.declared.crossing.Crossed.the-variants as crossed
 use Rattle.boxes.specs.Crossing.{crossingOf}
-use Rattle.geometry.specs.declared.point.Point3D.{Point3D}
 use Rattle.vector.specs.declared.Vector3D.{Vector3D}
 use Rattle.geometry.specs.declared.frame.Frame3D.{Frame3D}
 use Rattle.vector.specs.Vector.{vectorOf, zeroVector}

@@ -1,26 +1,25 @@
 -- The computed gap of two points: it does not depend on their order, and where it is at most c, for a c from 2 ^ -40 on, the exact squared gap is at most
 -- c * c * (1 + 2 ^ -50). Assumes nothing.
 use mathlib.Core.Path.{_≡_, refl, sym, ap, _∙_, subst}
-use mathlib.Core.Logic.{_⊎_, inl, inr}
-use Prim.Native.Nat.{ℕ, _+_, _-_, _*_, _^_, _≤_, _<_}
+use Prim.Native.Nat.{ℕ, _+_, _-_, _*_, _^_, _≤_}
 use native.Mathlib.Nat.{le-trans, le-of-eq, le-add-right, not-le-of-lt}
 use native.Mathlib.Omega.{arith}
-use mathlib.Core.Bool.{Bool, true, false, not, _&&_}
+use mathlib.Core.Bool.{Bool, true, false, _&&_}
 use lib.IntN.{natAbs, _-ℤ_}
-use lib.Dec.{T, lit≤, lit<}
+use lib.Dec.{T, lit≤}
 use lib.Pow.{pow-pos}
-use lib.Ieee.{Float, nan, inf, fin, binary64, add, sub, le, ofBits, fits}
-use lib.Ieee.Fits.{add-fits, sub-fits, mul-fits, and-l, and-r}
+use lib.Ieee.{Float, nan, inf, fin, binary64, le, ofBits, fits}
+use lib.Ieee.Fits.{add-fits, sub-fits, and-l, and-r}
 use lib.Ieee.Scale.{grid, finite}
 use Rattle.number.specs.Operators.{bits, _⊕_, _⊖_, _⊗_, _≤?_}
 use Rattle.number.specs.Helpers.{one}
 use Rattle.number.specs.Units.{unit, mag, neg?, inUnits}
 use Rattle.number.proofs.Values.{Is, is-own, whole, sum-mag, sub-is, apart}
-use Rattle.number.proofs.Rounding.{error-whole}
+use Rattle.number.proofs.Rounding.{whole-over}
 use Rattle.number.proofs.Finite.{add-finite, sub-finite, mul-finite}
 use Rattle.number.proofs.Symmetry.{square-swap}
 use Rattle.number.proofs.Sums.{apart-is}
-use Rattle.number.proofs.Order.{le→units, le-through}
+use Rattle.number.proofs.Order.{le→units}
 use Rattle.sqrt.specs.Sqrt.{sqrtOf}
 use Rattle.sqrt.proofs.AtMost.{squared, sum-over}
 use Rattle.sqrt.proofs.Laws.{UnderRoot, sqrt-le-finite, sqrt-rooted, sqrt-sign, sqrt-fits}
@@ -64,10 +63,7 @@ difference-over x y fx fy h =
     let f = sub-finite x y h in
     let e = sub-is x y (neg? x) (neg? y) (mag x) (mag y) (whole x fx (f .0)) (whole y fy (f .1)) in
     let m : mag (x ⊖ y) ≡ grid binary64 (between x y) unit = ap mag e ∙ sum-mag (neg? x) (neg? y) (mag x) (mag y) (subst (λ (v : Float). T (finite v)) e h) in
-    subst (λ (k : ℕ). between x y * (2 ^ 53 - 1) ≤ k * 2 ^ 53) (sym m) (less (between x y) (grid binary64 (between x y) unit) (error-whole (between x y) unit (pow-pos 1074) .1))
-  where
-    less : (d g : ℕ) → d * 2 ^ 53 ≤ g * 2 ^ 53 + d → d * (2 ^ 53 - 1) ≤ g * 2 ^ 53
-    less d g h = omega arith
+    subst (λ (k : ℕ). between x y * (2 ^ 53 - 1) ≤ k * 2 ^ 53) (sym m) (whole-over (between x y) unit (pow-pos 1074))
 
 -- ---- the law on six coordinates
 

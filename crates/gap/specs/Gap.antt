@@ -1,5 +1,5 @@
 -- The exact claim on a gap ("at most confusion squared times (1 + 2^-50)"). Definitions only.
-use Prim.Native.Nat.{ℕ, _+_, _*_, _^_, _≤_}
+use Prim.Native.Nat.{_+_, _*_, _^_, _≤_}
 use lib.Ieee.{Float}
 use Rattle.number.specs.Units.{mag}
 use Rattle.geometry.specs.declared.point.Point3D.{Point3D}

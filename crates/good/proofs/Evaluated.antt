@@ -3,11 +3,8 @@ use mathlib.Core.Path.{_≡_, refl}
 use mathlib.Core.Bool.{false}
 use lib.Ieee as Ieee
 use lib.Ieee.{Float}
-use Rattle.loops.specs.Loop.{turns, exits}
 use Rattle.number.specs.Operators.{bits}
-use Rattle.number.specs.Helpers.{absOf, maxOf}
 use Rattle.sqrt.specs.Sqrt.{sqrtOf}
-use Rattle.geometry.specs.declared.frame.Frame3D.{Frame3D}
 use Rattle.tolerance.specs.Tolerance.{defaultTolerance}
 use Rattle.vector.specs.Vector.{vectorOf, zeroVector, dotOf, crossOf, squareMagnitudeOf, magnitudeOf, negOf, scaleOf}
 use Rattle.geometry.specs.Point.{pointOf, fromOf, addVectorOf}

@@ -1,5 +1,5 @@
 -- Whatever the surfaces and the guess, under a fit tolerance every meeting and every landing is good. Assumes nothing.
-use mathlib.Core.Path.{_≡_, refl, sym, ap, _∙_, subst}
+use mathlib.Core.Path.{_≡_, refl, ap, _∙_, subst}
 use mathlib.Core.Bool.{Bool, true, false, _&&_}
 use Prim.Native.Nat.{ℕ, _^_, _≤_, _<_}
 use native.Mathlib.Nat.{lt-of-lt-of-le}
@@ -13,7 +13,7 @@ use Rattle.loops.proofs.Loop.{Kept, searched-keeps}
 use Rattle.number.specs.Operators.{_⊗_, _<?_, _≤?_}
 use Rattle.number.specs.Helpers.{one, half, absOf}
 use Rattle.number.specs.Units.{mag, neg?}
-use Rattle.number.proofs.Values.{Is, whole}
+use Rattle.number.proofs.Values.{whole}
 use Rattle.number.proofs.Order.{le-self, le-numbers, le-through}
 use Rattle.number.proofs.Scaling.{tenth-le}
 use Rattle.geometry.specs.declared.point.Point3D.{Point3D}
@@ -21,7 +21,7 @@ use Rattle.vector.specs.declared.Vector3D.{Vector3D}
 use Rattle.tolerance.specs.declared.Tolerance.{Tolerance}
 use Rattle.tolerance.specs.Tolerance.{leastConfusion, toleranceFit}
 use Rattle.vector.specs.Vector.{magnitudeOf}
-use Rattle.geometry.specs.Point.{fromOf, distanceOf}
+use Rattle.geometry.specs.Point.{fromOf}
 use Rattle.gap.proofs.Gap.{magnitude-is-gap, fit-tolerance, finite-between, large, gap-finite, PointFinite}
 use Rattle.patch.specs.declared.patch.Patch.{Patch}
 use Rattle.patch.specs.declared.patch.Parameters.{Parameters}
@@ -35,7 +35,6 @@ use Rattle.meeting.specs.declared.newton.Met.{Met}
 use Rattle.meeting.specs.declared.newton.Met.the-variants.{At, Nothing}
 use Rattle.meeting.specs.declared.newton.Trial.{Trial}
 use Rattle.meeting.specs.declared.newton.Trial.the-variants as trial
-use Rattle.meeting.specs.declared.newton.Round.{Round}
 use Rattle.meeting.specs.declared.newton.Round.the-variants as round
 use Rattle.meeting.specs.Parameters.{parameterOf, withParameter}
 use Rattle.patch.specs.Located.{pointA, pointB}

@@ -1,13 +1,12 @@
 -- The laws of the numbers of one point. Assumes nothing.
 use mathlib.Core.Path.{_≡_, ap}
 use mathlib.Core.List.{List}
-use Prim.Native.Nat.{ℕ, _+_, _*_, _/_, _≤_, _<_}
+use Prim.Native.Nat.{ℕ, _+_, _*_, _/_, _≤_}
 use native.Mathlib.Omega.{arith}
 use borrow.Author.Tests.{lt-ltb}
 use lib.ListN.{length, drop, getD}
 use lib.Seq.{getD-drop}
 use lib.Ieee.{Float, nan}
-use Rattle.groups.specs.declared.row.Row.{Row}
 use Rattle.groups.specs.Groups.{width, fromGroup}
 use Rattle.groups.specs.Row.{rowAt, rowOf, pointAt}
 

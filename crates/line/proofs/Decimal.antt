@@ -1,18 +1,14 @@
 -- The digits of a number stand for it. Assumes nothing.
-use mathlib.Core.Path.{_≡_, refl, ap, _∙_}
-use mathlib.Core.Bool.{Bool, true, false}
+use mathlib.Core.Path.{_≡_, ap, _∙_}
 use mathlib.Core.List.{List, [], _∷_}
 use Prim.Native.Nat.{ℕ, zero, suc, _+_, _*_, _-_, _/_, _%_, _^_, _≤_, _<_}
 use native.Mathlib.Nat.{pow-suc}
 use native.Mathlib.Omega.{arith}
 use borrow.Author.Tests.{ltb-true, ltb-false}
 use lib.Dec.{ltb}
+use Rattle.loops.proofs.Some.{cases}
 use Rattle.line.specs.Line.{digitOf, spell, decimalOf, valueOf}
 use Rattle.line.proofs.Text.{spell-more, spell-last}
-
-cases : {P : Type 0} (t : Bool) → (t ≡ true → P) → (t ≡ false → P) → P
-cases true f g = f refl
-cases false f g = g refl
 
 spell-value : (k n : ℕ) (tail : List ℕ) → n < 10 ^ k → valueOf (spell k n tail) 0 ≡ valueOf tail n
 unfolding spell valueOf

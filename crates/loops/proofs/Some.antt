@@ -17,7 +17,8 @@ module _ (test : ℕ → Bool) (a b : ℕ) where
   pub some-done : {u : Bool} → b ≤ a → some test a b ≡ u → false ≡ u
   some-done h i = searched-done (stopAt test) none a b {s = tt} h i
 
-cases : {P : Type 0} (t : Bool) → (t ≡ true → P) → (t ≡ false → P) → P
+-- by cases of a test
+pub cases : {P : Type 0} (t : Bool) → (t ≡ true → P) → (t ≡ false → P) → P
 cases true f g = f refl
 cases false f g = g refl
 

@@ -1,5 +1,5 @@
 -- `tangent` and `predict` of marching.rs. Definitions only.
-use mathlib.Core.List.{List, [], _∷_}
+use mathlib.Core.List.{[], _∷_}
 use lib.Ieee.{Float}
 use Rattle.loops.specs.Loop.{pick}
 use Rattle.number.specs.Operators.{bits, _⊕_, _⊗_, _⊘_, _≤?_}

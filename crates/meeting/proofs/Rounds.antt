@@ -1,9 +1,9 @@
 -- What a turn of the loops of `newton.rt` computes, as steps of the definitions. Assumes nothing.
-use mathlib.Core.Path.{_≡_, refl, ap, sym, _∙_}
-use mathlib.Core.Bool.{Bool, true, false}
+use mathlib.Core.Path.{_≡_}
+use mathlib.Core.Bool.{true, false}
 use Prim.Native.Nat.{ℕ}
 use lib.Ieee.{Float}
-use Rattle.loops.specs.Loop.{Flow, on, out}
+use Rattle.loops.specs.Loop.{on, out}
 use Rattle.number.specs.Operators.{_⊗_, _<?_}
 use Rattle.patch.specs.declared.patch.Patch.{Patch}
 use Rattle.patch.specs.declared.patch.Parameters.{Parameters}

@@ -4,7 +4,7 @@ use Prim.Native.Nat.{ℕ, _*_, _≤_, _<_, compare, Ordering, Ordering·lt, Orde
 use native.Mathlib.Nat.{mul-lt-mul-of-pos-right}
 use native.Mathlib.Omega.{arith}
 use mathlib.Core.Bool.{not}
-use lib.Dec.{T, leb, eqb, isLe, isEq, leb→le, nleb→lt, eqb→eq, eqb-refl}
+use lib.Dec.{T, eqb, isLe, isEq, leb→le, nleb→lt, eqb→eq, eqb-refl}
 use lib.Arith.{lt-of-le-ne}
 
 abbrev pub Cmp : Ordering → ℕ → ℕ → Type 0

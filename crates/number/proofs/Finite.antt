@@ -28,20 +28,17 @@ pub sub-finite : (x y : Float) → T (finite (sub binary64 x y)) → T (finite x
 unfolding sub
 sub-finite x y h = let a = add-finite x (neg y) h in (a .0, neg-finite y (a .1))
 
+-- an infinity times a number
+no-product : (b s : Bool) → T (finite (cond b nan (inf s))) → ⊥
+no-product true s h = h
+no-product false s h = h
+
 pub mul-finite : (x y : Float) → T (finite (mul binary64 x y)) → T (finite x) × T (finite y)
 unfolding mul
 mul-finite nan y h = absurd h
 mul-finite (inf s) nan h = absurd h
 mul-finite (inf s) (inf t) h = absurd h
-mul-finite (inf s) (fin t n d) h = absurd (no (eqb n 0) h)
-  where
-    no : (b : Bool) → T (finite (cond b nan (inf (unlike s t)))) → ⊥
-    no true h = h
-    no false h = h
+mul-finite (inf s) (fin t n d) h = absurd (no-product (eqb n 0) (unlike s t) h)
 mul-finite (fin s m e) nan h = absurd h
-mul-finite (fin s m e) (inf t) h = absurd (no (eqb m 0) h)
-  where
-    no : (b : Bool) → T (finite (cond b nan (inf (unlike s t)))) → ⊥
-    no true h = h
-    no false h = h
+mul-finite (fin s m e) (inf t) h = absurd (no-product (eqb m 0) (unlike s t) h)
 mul-finite (fin s m e) (fin t n d) h = (tt, tt)

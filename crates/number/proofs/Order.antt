@@ -3,12 +3,12 @@
 use mathlib.Core.Path.{_≡_, refl, sym, ap, _∙_, subst}
 use mathlib.Core.Logic.{_⊎_, inl, inr}
 use Prim.Native.Nat.{ℕ, zero, suc, _+_, _-_, _*_, _≤_, _<_, zero-le}
-use native.Mathlib.Nat.{le-refl, le-trans, le-of-eq, le-antisymm, eq-or-lt-of-le, mul-comm, mul-right-comm, mul-assoc, mul-le-mul-right, le-of-mul-le-mul-right, mul-pos, zero-mul, suc-mul, add-comm}
+use native.Mathlib.Nat.{le-refl, le-trans, le-antisymm, mul-comm, mul-right-comm, mul-assoc, mul-le-mul-right, le-of-mul-le-mul-right, mul-pos, zero-mul, suc-mul, add-comm}
 use native.Mathlib.Omega.{arith}
-use mathlib.Core.Bool.{Bool, true, false, not, _&&_, _||_, Bool·beq, cond}
+use mathlib.Core.Bool.{Bool, true, false, not, _&&_, _||_}
 use lib.IntN.{ℤ}
 use lib.Signed.{leZ, _≤ℤ_, leZ-yes}
-use lib.Dec.{T, leb, leb→le, le→leb, ltb, eqb, ltb→lt, nltb→le, eqb→eq, eqb-refl, lit<}
+use lib.Dec.{T, leb→le, le→leb, ltb, eqb, ltb→lt, nltb→le, eqb→eq, eqb-refl, lit<}
 use lib.Arith.{le→nltb}
 use lib.Pow.{pow-pos}
 use lib.Ieee.{Float, nan, inf, fin, binary64, up, down, isNan, fits, round, neg, lt, eq, le, below, level}
@@ -17,7 +17,7 @@ use lib.Ieee.Scale.{finite, round-same}
 use lib.Ieee.Order.{round-mono}
 use Rattle.number.specs.Operators.{_<?_, _≤?_}
 use Rattle.number.specs.Units.{unit, mag, neg?, signed, inUnits}
-use Rattle.number.proofs.Values.{Is, whole}
+use Rattle.number.proofs.Values.{Is, whole, both-ways}
 use Rattle.number.proofs.Symmetry.{round-neg}
 
 -- ---- ±a ≤ ±b, for two whole numbers with signs
@@ -124,13 +124,7 @@ not-greater true false a b = or-level a b
 not-greater true true a b = ap (λ (e : Bool). ltb b a || (e && true)) (eqb-swap a b) ∙ level-self b a
   where
     eqb-swap : (a b : ℕ) → eqb a b ≡ eqb b a
-    eqb-swap a b = go (eqb a b) (eqb b a) (λ t. same (sym (eqb→eq a b t))) (λ t. same (sym (eqb→eq b a t)))
-      where
-        go : (x y : Bool) → (T x → T y) → (T y → T x) → x ≡ y
-        go true true f g = refl
-        go true false f g = absurd (f tt)
-        go false true f g = absurd (g tt)
-        go false false f g = refl
+    eqb-swap a b = both-ways (eqb a b) (eqb b a) (λ t. same (sym (eqb→eq a b t))) (λ t. same (sym (eqb→eq b a t)))
 
 below→Le : (s t : Bool) (a b : ℕ) → T (not (below t b s a)) → Le s a t b
 below→Le false false a b h = nltb→le b a h

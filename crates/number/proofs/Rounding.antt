@@ -2,16 +2,14 @@
 use mathlib.Core.Path.{_≡_, refl, sym, ap, _∙_, subst}
 use mathlib.Core.Logic.{_⊎_, inl, inr}
 use Prim.Native.Nat.{ℕ, zero, suc, _+_, _-_, _*_, _/_, _%_, _^_, _≤_, _<_, compare, Ordering, Ordering·lt, Ordering·eq, Ordering·gt}
-use native.Mathlib.Nat.{le-refl, le-trans, le-of-eq, lt-of-lt-of-le, eq-zero-or-pos, mul-one, mul-comm, mul-assoc, mul-left-comm, mul-right-comm, mul-le-mul-right, mul-le-mul-left, le-of-mul-le-mul-right, mul-pos, div-add-mod', mod-lt, le-div-iff-mul-le, mul-div-cancel, mul-mod-left, suc-mul}
+use native.Mathlib.Nat.{le-trans, le-of-eq, eq-zero-or-pos, mul-one, mul-comm, mul-assoc, mul-left-comm, mul-le-mul-left, le-of-mul-le-mul-right, mul-pos, div-add-mod', mod-lt, le-div-iff-mul-le, mul-div-cancel, mul-mod-left, suc-mul}
 use native.Mathlib.Omega.{arith}
-use lib.Pow.{pow-add, pow-pos, pow-mono}
+use lib.Pow.{pow-add, pow-pos}
 use lib.Dec.{lit<}
-use lib.Ieee.{Format, prec, low, size, nearest}
+use lib.Ieee.{size, nearest}
 use lib.Ieee.Digits.{size-reaches}
-use lib.Ieee.Fits.{two, two-le-pos}
 use lib.Ieee.Nearest.{closest}
 use lib.Ieee.Order.{drop, kept}
-use lib.Ieee.Scale.{grid}
 use Rattle.number.proofs.Compare.{Cmp, cmp}
 
 -- x and y are at most e apart
@@ -108,3 +106,10 @@ error-whole d c C = go (eq-zero-or-pos (drop 53 (d * c) c))
     go (inr l) =
         cancel (got 53 (d * c) c) d c C
         (times (2 ^ 52) (got 53 (d * c) c * c) (d * c) (c * 2 ^ drop 53 (d * c) c) (d * c) (half-unit 53 (d * c) c C) (unit-small 53 (d * c) c (lit< tt) C l))
+
+-- so a whole number of units is one part in 2 ^ 53 or less above its rounding
+pub whole-over : (d c : ℕ) → 0 < c → d * (2 ^ 53 - 1) ≤ got 53 (d * c) c * 2 ^ 53
+whole-over d c C = less d (got 53 (d * c) c) (error-whole d c C .1)
+  where
+    less : (d g : ℕ) → d * 2 ^ 53 ≤ g * 2 ^ 53 + d → d * (2 ^ 53 - 1) ≤ g * 2 ^ 53
+    less d g h = omega arith

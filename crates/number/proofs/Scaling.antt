@@ -3,28 +3,23 @@ use mathlib.Core.Path.{_≡_, refl, sym, ap, _∙_, subst}
 use Prim.Native.Nat.{ℕ, zero, suc, _+_, _-_, _*_, _^_, _≤_, _<_}
 use native.Mathlib.Nat.{le-refl, le-of-lt, lt-of-le-of-lt, lt-of-lt-of-le, not-le-of-lt, mul-one, mul-assoc, mul-comm, mul-pos, le-of-mul-le-mul-right, pow-suc}
 use native.Mathlib.Omega.{arith}
-use mathlib.Core.Bool.{Bool, true, false}
+use mathlib.Core.Bool.{Bool, false}
 use lib.Dec.{T, lit<}
 use lib.Pow.{pow-pos}
-use lib.Ieee.{Float, binary64, unlike, size, round, le, ofBits, fits}
+use lib.Ieee.{Float, binary64, size, round, le, ofBits, fits}
 use lib.Ieee.Scale.{finite, grid, round-same, round-val}
 use lib.Ieee.Positive.{positive, positive-of-value, mul-mono}
 use Rattle.number.specs.Operators.{_⊗_, _<?_, _≤?_, bits}
+use Rattle.number.specs.Helpers.{one, half}
 use Rattle.number.specs.Units.{unit, mag, neg?}
 use Rattle.number.proofs.Values.{Is, Held, is-number, whole, held, below-top, mul-is}
 use Rattle.number.proofs.Rounding.{error}
 use Rattle.number.proofs.Neighbours.{multiple}
-use Rattle.number.proofs.Sums.{round-held}
+use Rattle.number.proofs.Sums.{round-held, unlike-false}
 use Rattle.number.proofs.Order.{le-self, le-through, le→units, units→le, not-le→lt}
-
-abbrev one : Float
-one = bits 0x3FF0_0000_0000_0000
 
 abbrev tenth : Float
 tenth = bits 0x3FB9_9999_9999_999A
-
-abbrev half : Float
-half = bits 0x3FE0_0000_0000_0000
 
 one-is : Is one false unit
 unfolding ofBits
@@ -39,10 +34,6 @@ round-product : (s : Bool) (n k : ℕ) → n ≡ k * unit → Held k → k < 2 ^
 round-product s n k e h top =
     subst (λ (x : Float). Is x s k) (sym (round-same binary64 s n (unit * unit) k unit (mul-pos (pow-pos 1074) (pow-pos 1074)) (pow-pos 1074) (ap (λ (x : ℕ). x * unit) e ∙ mul-assoc k unit unit)))
     (round-held s k h top)
-
-unlike-false : (s : Bool) → unlike s false ≡ s
-unlike-false true = refl
-unlike-false false = refl
 
 -- ---- a tenth of c is at most c, and so what is at most a tenth of c is at most c
 

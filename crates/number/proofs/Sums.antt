@@ -7,15 +7,15 @@ use mathlib.Core.Bool.{Bool, true, false, not, _&&_, Bool·beq, cond}
 use lib.IntN.{ℤ, pos, negsuc, negℤ, natAbs, subℕ, _+ℤ_, _-ℤ_, _*ℤ_, +ℤ-comm, negℤ-+ℤ}
 use lib.Dec.{T, ltb, ltb→lt, nltb→le}
 use lib.Pow.{pow-pos}
-use lib.Ieee.{Float, nan, inf, fin, binary64, unlike, up, down, round, sum, neg, add, sub, mul, fits}
+use lib.Ieee.{Float, nan, inf, fin, binary64, unlike, up, down, round, sum, neg, sub, fits}
 use lib.Ieee.Fits.{neg-fits}
 use lib.Ieee.Exact.{round-exact}
 use lib.Ieee.Scale.{grid, finite}
 use Rattle.number.specs.Operators.{_⊕_, _⊖_, _⊗_}
 use Rattle.number.specs.Units.{unit, mag, neg?, signed, inUnits}
-use Rattle.number.proofs.Values.{Is, Held, is-own, whole, round-is-grid, add-is, mul-is, neg-is, apart}
+use Rattle.number.proofs.Values.{Is, Held, is-own, whole, round-is-grid, add-is, mul-is, apart}
 use Rattle.number.proofs.Rounding.{Within, error, error-whole}
-use Rattle.number.proofs.Finite.{add-finite, mul-finite, neg-finite}
+use Rattle.number.proofs.Finite.{add-finite, mul-finite}
 
 -- ---- integers with a sign and a size
 
@@ -183,6 +183,11 @@ signed-mul false true a zero = ap pos (mul-zero a) ∙ sym (ap (λ (k : ℕ). ne
 signed-mul false true a (suc b) = refl
 signed-mul false false a b = refl
 
+-- a factor that is not negative keeps the sign
+pub unlike-false : (s : Bool) → unlike s false ≡ s
+unlike-false true = refl
+unlike-false false = refl
+
 -- a product is one part in 2 ^ 53 from the exact one, and half of the smallest number at the most where it underflows.
 -- The exact product is in units of units, so the rounded one is multiplied by the unit.
 pub product-error : (x y : Float) → T (fits binary64 x) → T (fits binary64 y) → T (finite (x ⊗ y))
@@ -202,9 +207,5 @@ product-error x y fx fy h =
     (subst (λ (z : ℤ). natAbs (signed s (g * unit) -ℤ z) * 2 ^ 53 ≤ natAbs z + unit * 2 ^ 52) (sym w)
     (close s (g * unit) n (unit * 2 ^ 52) (cancel g n unit (pow-pos 1074) (error (n * unit) (unit * unit) (mul-pos (pow-pos 1074) (pow-pos 1074))))))
   where
-    unlike-false : (s : Bool) → unlike s false ≡ s
-    unlike-false true = refl
-    unlike-false false = refl
-
     cancel : (g n l : ℕ) → 0 < l → Within (g * (l * l) * 2 ^ 53) (n * l * 2 ^ 53) (n * l + l * l * 2 ^ 52) → Within (g * l * 2 ^ 53) (n * 2 ^ 53) (n + l * 2 ^ 52)
     cancel g n l L w = (le-of-mul-le-mul-right {k = l} (omega (arith, w .0)) L, le-of-mul-le-mul-right {k = l} (omega (arith, w .1)) L)

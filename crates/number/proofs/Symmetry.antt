@@ -1,5 +1,5 @@
 -- What may be exchanged: a + b and b + a, a * b and b * a, and the squares of a - b and b - a. Assumes nothing.
-use mathlib.Core.Path.{_≡_, refl, sym, ap, _∙_, subst}
+use mathlib.Core.Path.{_≡_, refl, sym, ap, _∙_}
 use Prim.Native.Nat.{ℕ, zero, suc, _+_, _-_, _*_, _/_, _%_, _^_, _≤_, _<_, compare}
 use native.Mathlib.Nat.{add-comm, mul-comm}
 use native.Mathlib.Omega.{arith}

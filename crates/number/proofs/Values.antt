@@ -1,14 +1,12 @@
 -- A finite binary64 as a whole number of units, 2 ^ -1074: `mag` with the sign `neg?`. The operations in those numbers. Assumes nothing.
 use mathlib.Core.Path.{_≡_, refl, sym, ap, _∙_, subst}
-use mathlib.Core.Logic.{_⊎_, inl, inr}
 use Prim.Native.Nat.{ℕ, zero, suc, _+_, _-_, _*_, _/_, _%_, _^_, _≤_, _<_}
-use native.Mathlib.Nat.{le-refl, le-trans, le-of-eq, mul-comm, mul-assoc, mul-left-comm, mul-right-comm, mul-pos, mul-div-cancel, add-mul, mul-sub, mul-lt-mul-of-pos-right, lt-of-mul-lt-mul-right, mul-mul-mul-comm, lt-of-le-of-lt, lt-of-lt-of-le, lt-irrefl, zero-mul, zero-lt-suc}
+use native.Mathlib.Nat.{le-of-eq, mul-comm, mul-assoc, mul-right-comm, mul-pos, mul-div-cancel, add-mul, mul-sub, mul-lt-mul-of-pos-right, lt-of-mul-lt-mul-right, mul-mul-mul-comm, lt-of-le-of-lt, lt-of-lt-of-le, lt-irrefl, zero-mul, zero-lt-suc}
 use native.Mathlib.Omega.{arith}
 use mathlib.Core.Bool.{Bool, true, false, not, _&&_, Bool·beq, cond}
-use lib.IntN.{ℤ, pos, negsuc}
 use lib.Dec.{T, leb, ltb, eqb, ltb→lt, lt→ltb, nltb→le}
 use lib.Pow.{pow-pos}
-use lib.Ieee.{Float, nan, inf, fin, Format, binary64, prec, emax, low, unlike, up, down, odd, units, round, neg, sum, add, sub, mul, ofFields, ofBits, toBits, fits, isNan}
+use lib.Ieee.{Float, nan, inf, fin, Format, binary64, prec, low, unlike, up, down, odd, units, round, neg, sum, add, sub, mul, ofFields, ofBits, toBits, fits, isNan}
 use lib.Ieee.Fits.{and-r, down-pos, round-is}
 use lib.Ieee.Bits.{ofBits-toBits}
 use lib.Ieee.Exact.{HasValue, odd-sign, units-val}
@@ -90,14 +88,15 @@ round-is-grid s a c h =
 cross : (x u d e a l : ℕ) → x * u * l ≡ a * e → x * u * d * l ≡ a * (e * d)
 cross x u d e a l h = mul-right-comm (x * u) d l ∙ ap (λ (k : ℕ). k * d) h ∙ mul-assoc a e d
 
+-- tests that hold together are the same
+pub both-ways : (p q : Bool) → (T p → T q) → (T q → T p) → p ≡ q
+both-ways true true m n = refl
+both-ways true false m n = absurd (m tt)
+both-ways false true m n = absurd (n tt)
+both-ways false false m n = refl
+
 ltb-same : (a b x y : ℕ) → (x < y → a < b) → (a < b → x < y) → ltb a b ≡ ltb x y
-ltb-same a b x y f g = go (ltb a b) (ltb x y) (λ t. lt→ltb x y (g (ltb→lt a b t))) (λ t. lt→ltb a b (f (ltb→lt x y t)))
-  where
-    go : (p q : Bool) → (T p → T q) → (T q → T p) → p ≡ q
-    go true true m n = refl
-    go true false m n = absurd (m tt)
-    go false true m n = absurd (n tt)
-    go false false m n = refl
+ltb-same a b x y f g = both-ways (ltb a b) (ltb x y) (λ t. lt→ltb x y (g (ltb→lt a b t))) (λ t. lt→ltb a b (f (ltb→lt x y t)))
 
 module _ (A B C a b l : ℕ) (cp : 0 < C) (lp : 0 < l) (p : A * l ≡ a * C) (q : B * l ≡ b * C) where
   order : ltb A B ≡ ltb a b

@@ -1,6 +1,5 @@
 -- What the helpers on binary64 numbers give. Definitions only.
-use Prim.Native.Nat.{ℕ}
-use mathlib.Core.Bool.{Bool, true, false, cond}
+use mathlib.Core.Bool.{Bool, false, cond}
 use lib.Dec.{eqb}
 use lib.Ieee.{Float, nan, inf, fin, binary64, isNan, toBits}
 use Rattle.number.specs.Operators.{bits, _<?_, _≤?_}

@@ -9,7 +9,7 @@ use lib.Ieee.{Float, nan, binary64, fits}
 use lib.Ieee.Fits.{and-l, and-r}
 use Rattle.loops.specs.Loop.{exits}
 use Rattle.number.specs.Operators.{bits}
-use Rattle.number.specs.Helpers.{absOf, numberFit, sameBits}
+use Rattle.number.specs.Helpers.{one, absOf, numberFit, sameBits}
 use Rattle.sqrt.specs.Sqrt.{sqrtOf}
 use Rattle.groups.specs.Groups.{holdsOf}
 use Rattle.groups.specs.Row.{rowOf}
@@ -41,9 +41,6 @@ computing = tt
 
 abbrev window : Window
 window = record { low = bits 0xbff0_0000_0000_0000; high = bits 0x3ff0_0000_0000_0000; turn = false }
-
-abbrev one : Float
-one = bits 0x3ff0_0000_0000_0000
 
 abbrev confusion : Float
 confusion = bits 0x3eb0_0000_0000_0000

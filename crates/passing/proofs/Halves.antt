@@ -1,13 +1,13 @@
 -- What a half of the walk keeps: its points are good, each chord is at most 0.2, and it holds no more points than steps. Assumes nothing.
-use mathlib.Core.Path.{_≡_, refl, ap, sym, subst, _∙_}
+use mathlib.Core.Path.{_≡_, refl, subst}
 use mathlib.Core.Bool.{Bool, true, false}
-use mathlib.Core.List.{List, [], _∷_, _++_, reverse}
-use Prim.Native.Nat.{ℕ, zero, suc, _+_, _-_, _≤_, _<_}
+use mathlib.Core.List.{List, [], _∷_, _++_}
+use Prim.Native.Nat.{ℕ, _+_, _-_, _≤_, _<_}
 use native.Mathlib.Omega.{arith}
 use lib.Dec.{T}
 use lib.Ieee.{Float, binary64, fits}
 use lib.ListN.{length}
-use Rattle.loops.specs.Loop.{pick, Flow, on, out, searched}
+use Rattle.loops.specs.Loop.{pick}
 use Rattle.loops.proofs.Loop.{Kept, searched-keeps-at}
 use Rattle.number.specs.Operators.{_≤?_}
 use Rattle.geometry.specs.declared.point.Point3D.{Point3D}
@@ -19,7 +19,6 @@ use Rattle.patch.specs.declared.patch.Patch.{Patch}
 use Rattle.patch.specs.declared.patch.Parameters.{Parameters}
 use Rattle.patch.specs.Located.{pointA}
 use Rattle.good.specs.Good.{Good}
-use Rattle.stride.specs.declared.attempt.Walker.{Walker}
 use Rattle.step.specs.Step.{stepOf}
 use Rattle.walk.specs.Half.{Walked, Halfway, firstWalker, withoutLast, afterStep, halfStep, halfSpent, halfOf}
 use Rattle.step.specs.Closing.{firstStride}

@@ -1,11 +1,11 @@
 -- What both halves make: a line of good points whose chords but the closing one are at most 0.2. Assumes nothing.
 use mathlib.Core.Path.{_≡_, refl, ap, sym, subst, _∙_}
-use mathlib.Core.Bool.{Bool, true, false}
+use mathlib.Core.Bool.{Bool, false}
 use mathlib.Core.List.{List, [], _∷_, _++_, reverse, reverse-cons}
 use Prim.Native.Nat.{ℕ, zero, suc, _+_, _-_, _*_, _≤_, _<_}
 use native.Mathlib.Omega.{arith}
 use borrow.Author.Tests.{eqb-false}
-use lib.Dec.{T, eqb}
+use lib.Dec.{T}
 use lib.Ieee.{Float, binary64, fits}
 use lib.ListN.{length, getD, length-append, length-reverse, List·getD-append}
 use lib.Seq.{getD-append-seam}
@@ -16,7 +16,7 @@ use Rattle.patch.specs.declared.patch.Patch.{Patch}
 use Rattle.patch.specs.declared.patch.Parameters.{Parameters}
 use Rattle.good.specs.Good.{Good}
 use Rattle.certificate.specs.Passes.{closingChord}
-use Rattle.walk.specs.Half.{Walked, halfOf}
+use Rattle.walk.specs.Half.{halfOf}
 use Rattle.walk.specs.Line.{Line, ahead, back, lineOf}
 use Rattle.passing.proofs.Chains.{All, all-append, all-turned, Linked, linked-at, linked-join, linked-turned}
 use Rattle.passing.proofs.Halves.{Near, near-swap, Ends, left-open, came-round, HalfFine, half-fine}

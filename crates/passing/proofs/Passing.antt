@@ -1,19 +1,18 @@
 -- STATEMENT 4: whatever `trace` is given, if it answers a trace, that trace passes. Assumes nothing.
 use mathlib.Core.Path.{_≡_, refl, ap, sym, subst, _∙_}
 use mathlib.Core.Bool.{Bool, true, false}
-use mathlib.Core.List.{List, [], _∷_, _++_, append-assoc}
-use Prim.Native.Nat.{ℕ, _+_, _-_, _*_, _≤_, _<_}
+use mathlib.Core.List.{List, _++_, append-assoc}
+use Prim.Native.Nat.{ℕ, _+_, _-_, _*_, _≤_}
 use native.Mathlib.Omega.{arith}
 use borrow.Author.Tests.{leb-true}
 use lib.Dec.{T, leb}
 use lib.Ieee.{Float, binary64, fits}
 use lib.ListN.{length, drop, replicate}
 use Rattle.loops.specs.Loop.{pick}
-use Rattle.groups.specs.Groups.{width, holdsOf}
+use Rattle.groups.specs.Groups.{width}
 use Rattle.groups.specs.Row.{zero}
 use Rattle.refusal.specs.declared.Refusal.{Refusal}
 use Rattle.refusal.specs.declared.Refusal.the-variants as refusal
-use Rattle.vector.specs.declared.Vector3D.{Vector3D}
 use Rattle.tolerance.specs.declared.Tolerance.{Tolerance}
 use Rattle.tolerance.specs.Tolerance.{toleranceFit}
 use Rattle.patch.specs.declared.patch.Patch.{Patch}
@@ -36,7 +35,7 @@ use Rattle.certificate.proofs.Passed.{passes-checked}
 use Rattle.walk.specs.Lent.{rowsOf}
 use Rattle.walk.specs.Line.{lineOf}
 use Rattle.walk.specs.Line as line
-use Rattle.walk.specs.Trace.{Outcome, countOf, startOf, closingOf, guessFinite, limitsOf, afterPatch, callFitness, room, settled, afterDirection, afterSeed, walkedOf, afterCall, traceOf}
+use Rattle.walk.specs.Trace.{Outcome, countOf, startOf, closingOf, callFitness, room, settled, afterDirection, afterSeed, walkedOf, afterCall, traceOf}
 use Rattle.walk.specs.declared.answer.Traced.{Traced}
 use Rattle.walk.specs.declared.answer.Traced.the-variants.{Line, Refused}
 use Rattle.walk.proofs.Calls.{call-fit}

@@ -1,6 +1,6 @@
 -- The rows of a line in the lent buffer, and that a row of good parameters passes. Assumes nothing.
 use mathlib.Core.Path.{_≡_, refl, ap, sym, subst, _∙_}
-use mathlib.Core.Bool.{Bool, true, false}
+use mathlib.Core.Bool.{false}
 use mathlib.Core.List.{List, [], _∷_, _++_}
 use Prim.Native.Nat.{ℕ, zero, suc, _+_, _-_, _*_, _≤_, _<_}
 use native.Mathlib.Omega.{arith}
@@ -23,11 +23,10 @@ use Rattle.patch.specs.Patch.{fitnessOf, insideOf}
 use Rattle.patch.specs.Located.{pointA, pointB}
 use Rattle.good.specs.Good.{Good}
 use Rattle.good.proofs.Good.{good-finite}
-use Rattle.certificate.specs.Passes.{parametersAt, closingChord, PointPasses, ClosedAs, claimed-open, forward, backward, Passes}
+use Rattle.certificate.specs.Passes.{closingChord, PointPasses, ClosedAs, claimed-open, forward, backward, Passes}
 use Rattle.walk.specs.Lent.{ownRow, rowsOf}
 use Rattle.walk.proofs.Halves.{rows-length}
-use Rattle.passing.proofs.Chains.{All, all-at}
-use Rattle.passing.proofs.Halves.{Near}
+use Rattle.passing.proofs.Chains.{all-at}
 use Rattle.passing.proofs.Lines.{Round, not-round, round-forward, round-back, LineFine}
 
 -- ---- row i is the i-th point's

@@ -1,9 +1,7 @@
 -- The public point, and the points of two surfaces at four parameters. Definitions only.
-use mathlib.Core.Bool.{Bool}
 use lib.Ieee.{Float}
 use lib.Ieee.Scale.{finite}
 use Rattle.loops.specs.Loop.{pick}
-use Rattle.refusal.specs.declared.Refusal.{Refusal}
 use Rattle.geometry.specs.declared.point.Point3D.{Point3D}
 use Rattle.refusal.specs.declared.Refusal.the-variants.{Parameter}
 use Rattle.patch.specs.declared.patch.Patch.{Patch}

@@ -1,11 +1,10 @@
 -- The square solvers (01, "The walk", "Solving"; the Rust's math/solve.rs), over lists of any size n. Definitions only.
 use mathlib.Core.List.{List, []}
-use mathlib.Core.Bool.{Bool}
 use Prim.Native.Nat.{ℕ, _+_, _-_}
 use lib.ListN.{getD, set, replicate}
 use lib.Ieee.{Float, nan}
 use Rattle.loops.specs.Loop.{pick, ranged, Flow, on, out, searched}
-use Rattle.number.specs.Operators.{_⊕_, _⊖_, _⊗_, _⊘_, _<?_, _≤?_, bits}
+use Rattle.number.specs.Operators.{_⊕_, _⊖_, _⊗_, _⊘_, _<?_, bits}
 use Rattle.number.specs.Helpers.{absOf}
 use Rattle.cramer.specs.Cramer.{cell, givesUp}
 use Rattle.solve.specs.declared.Solved3.{Solved3}

@@ -14,7 +14,7 @@ use lib.Ieee.Scale.{grid, finite}
 use Rattle.number.specs.Operators.{bits, _⊕_, _⊗_, _<?_, _≤?_}
 use Rattle.number.specs.Units.{unit, mag, neg?}
 use Rattle.number.proofs.Values.{Is, is-own, whole, round-is-grid, add-is, mul-is}
-use Rattle.number.proofs.Rounding.{error, error-whole}
+use Rattle.number.proofs.Rounding.{error, whole-over}
 use Rattle.number.proofs.Finite.{mul-finite}
 use Rattle.number.proofs.Order.{le→units, units→le, lt→le}
 use Rattle.sqrt.specs.Sqrt.{sqrtOf}
@@ -66,11 +66,8 @@ sum-over x y a b p q h =
     let g = grid binary64 (a + b) unit in
     let m : mag (x ⊕ y) ≡ g = ap mag e ∙ is-own (round binary64 false (a + b) unit) false g i .1 in (
       subst (λ (k : ℕ). Is (x ⊕ y) false k) (sym m) (subst (λ (v : Float). Is v false g) (sym e) i),
-      subst (λ (k : ℕ). (a + b) * (2 ^ 53 - 1) ≤ k * 2 ^ 53) (sym m) (less (a + b) g (error-whole (a + b) unit (pow-pos 1074) .1)),
+      subst (λ (k : ℕ). (a + b) * (2 ^ 53 - 1) ≤ k * 2 ^ 53) (sym m) (whole-over (a + b) unit (pow-pos 1074)),
     )
-  where
-    less : (d g : ℕ) → d * 2 ^ 53 ≤ g * 2 ^ 53 + d → d * (2 ^ 53 - 1) ≤ g * 2 ^ 53
-    less d g h = omega arith
 
 -- ---- what is not negative is finite, or infinite above
 

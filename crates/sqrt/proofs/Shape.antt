@@ -1,19 +1,18 @@
 -- The root of a finite number above 0, taken apart: with n = mag x * unit, the exact root in units squared, n is M * 4 ^ j, and the result is the whole number g
 -- nearest to M's root, with j zeros after it. Every law about the square root follows from that. Assumes nothing.
-use mathlib.Core.Path.{_≡_, refl, sym, ap, _∙_, subst}
+use mathlib.Core.Path.{_≡_, sym, ap, _∙_, subst}
 use Prim.Native.Nat.{ℕ, zero, suc, _+_, _-_, _*_, _/_, _%_, _^_, _≤_, _<_}
-use native.Mathlib.Nat.{le-trans, le-of-eq, lt-of-lt-of-le, lt-of-le-of-lt, lt-of-not-le, not-le-of-lt, le-of-suc-le-suc, lt-irrefl, zero-lt-suc, zero-mul, mul-pos, mul-le-mul, mul-lt-mul-of-pos-right, lt-of-mul-lt-mul-right, mul-right-comm, add-sub-of-le}
+use native.Mathlib.Nat.{le-trans, le-of-eq, lt-of-lt-of-le, lt-of-not-le, not-le-of-lt, le-of-suc-le-suc, lt-irrefl, zero-lt-suc, zero-mul, mul-le-mul, mul-lt-mul-of-pos-right, add-sub-of-le}
 use native.Mathlib.Omega.{arith}
-use mathlib.Core.Bool.{Bool, false, _&&_}
-use lib.Dec.{T, leb, ltb, eqb, ltb→lt, lit≤}
+use mathlib.Core.Bool.{Bool, false}
+use lib.Dec.{T, lit≤}
 use lib.Pow.{pow-pos, pow-mono}
 use lib.Count.{leadingZeros}
-use lib.Ieee.{Float, nan, inf, fin, binary64, up, down, units, fits}
-use lib.Ieee.Fits.{and-r, down-pos}
+use lib.Ieee.{Float, binary64, units, fits}
 use lib.Ieee.Exact.{units-val}
 use lib.Ieee.Scale.{finite}
 use Rattle.number.specs.Units.{unit, mag, neg?}
-use Rattle.number.proofs.Values.{Is, is-own, whole, held}
+use Rattle.number.proofs.Values.{Is, is-own, whole, held, below-top}
 use Rattle.sqrt.specs.Sqrt.{sqrtOf, floorRoot, roundRoot}
 use Rattle.sqrt.specs.Nearest.{Nearest}
 use Rattle.sqrt.proofs.Root.{IsRoot, floorRoot-is, nearest-up, nearest-down}
@@ -52,23 +51,7 @@ module _ (M : ℕ) (P : 0 < M) where
       go (yes h) = (q, nearest-down M q (M - q * q) P rest h)
       go (no h) = (q + 1, nearest-up M q (M - q * q) rest (rest-le M q (floorRoot-is M)) (lt-of-not-le h))
 
--- a finite number is below 2 ^ 2098 units
-below-top : (x : Float) (s : Bool) (a : ℕ) → T (fits binary64 x) → Is x s a → a < 2 ^ 2098
-unfolding fits
-below-top nan s a f v = absurd v
-below-top (inf t) s a f v = absurd v
-below-top (fin t zero e) s a f v = lt-of-le-of-lt (le-of-eq (none a (down e) (down-pos e) (v .1))) (pow-pos 2098)
-  where
-    none : (a d : ℕ) → 0 < d → zero * up e * unit ≡ a * d → a ≡ 0
-    none zero d D h = refl
-    none (suc a) d D h = absurd (lt-irrefl 0 (subst (λ (k : ℕ). 0 < k) (sym h ∙ ap (λ (k : ℕ). k * unit) (zero-mul (up e)) ∙ zero-mul unit) (mul-pos (zero-lt-suc a) D)))
-below-top (fin t (suc m) e) s a f v =
-    lt-of-mul-lt-mul-right (down e)
-    (lt-of-le-of-lt (le-of-eq (sym (v .1)))
-    (lt-of-lt-of-le (mul-lt-mul-of-pos-right (ltb→lt (suc m * up e) (2 ^ 1024 * down e) (and-r (eqb (suc m % 2) 1 && ltb (suc m) (2 ^ 53) && leb (down e) (2 ^ 1074)) (ltb (suc m * up e) (2 ^ 1024 * down e)) f)) (pow-pos 1074))
-    (le-of-eq (mul-right-comm (2 ^ 1024) (down e) unit))))
-
--- so its root has few zeros
+-- a finite number is below 2 ^ 2098 units (`below-top`), so its root has few zeros
 few-zeros : (n M j : ℕ) → n ≡ M * (2 ^ j * 2 ^ j) → 2 ^ 104 ≤ M → n < 2 ^ 2098 * unit → j ≤ 1533
 few-zeros n M j e lo h = le-of-suc-le-suc (lt-of-not-le (λ (l : 1534 ≤ j). not-le-of-lt h (le-trans (lit≤ {m = 2 ^ 2098 * unit} {n = 2 ^ 104 * (2 ^ 1534 * 2 ^ 1534)} tt) (le-trans (mul-le-mul lo (mul-le-mul (pow-mono {i = 1534} l) (pow-mono {i = 1534} l))) (le-of-eq (sym e))))))
 

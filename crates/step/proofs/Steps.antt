@@ -1,13 +1,13 @@
 -- What every step of the walk keeps: a new point is A's own for its parameters and good, and its computed chord from the last is at most
 -- 0.2; a half closes only when it holds 3 points. Assumes nothing.
-use mathlib.Core.Path.{_≡_, refl, sym, ap, subst}
+use mathlib.Core.Path.{_≡_, refl, sym, subst}
 use mathlib.Core.Bool.{Bool, true, false, _&&_}
 use Prim.Native.Nat.{ℕ, _≤_}
 use borrow.Author.Tests.{leb-true}
 use lib.Dec.{T, leb}
 use lib.Ieee.{Float, binary64, fits}
 use lib.Ieee.Fits.{and-l, and-r}
-use Rattle.loops.specs.Loop.{pick, Flow, on, out}
+use Rattle.loops.specs.Loop.{pick, Flow, out}
 use Rattle.loops.proofs.Loop.{Kept, searched-keeps}
 use Rattle.number.specs.Operators.{bits, _⊗_, _⊘_, _<?_, _≤?_}
 use Rattle.number.specs.Helpers.{maxOf, minPositive}
@@ -36,7 +36,7 @@ use Rattle.stride.specs.declared.attempt.Tried.{Tried}
 use Rattle.stride.specs.declared.attempt.Tried.the-variants as tried
 use Rattle.stride.specs.declared.shorten.Stride.{Stride}
 use Rattle.stride.specs.declared.shorten.Stride.the-variants as stride
-use Rattle.stride.specs.Attempt.{two, keptOf, onEdge, afterLanding, landedOf, turnOf, smoothOf, acceptedOf, onwardAt, onwardOf, afterTangent, afterMeeting, innerOf, towards, predicted, attemptOf}
+use Rattle.stride.specs.Attempt.{two, keptOf, onEdge, afterLanding, landedOf, turnOf, smoothOf, acceptedOf, onwardOf, afterTangent, afterMeeting, innerOf, towards, predicted, attemptOf}
 use Rattle.stride.specs.Shorten.{longestStride, strideStep, afterAttempt, noStride, halvingOf, strideOf}
 use Rattle.step.specs.Closing.{closesOf, nextStride}
 use Rattle.step.specs.Step.{edgeStep, cameRound, innerStep, nearStart, afterStride, stepOf}

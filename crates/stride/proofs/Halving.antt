@@ -1,20 +1,20 @@
 -- The stride loop: its invariant, what a turn makes of it, and why 37 turns leave no stride untried. Assumes nothing.
 use mathlib.Core.Path.{_≡_, refl, sym, ap, _∙_, subst}
-use mathlib.Core.Logic.{_⊎_, inl, inr}
+use mathlib.Core.Logic.{inl, inr}
 use mathlib.Core.Bool.{Bool, true, false}
-use Prim.Native.Nat.{ℕ, zero, suc, _+_, _-_, _*_, _^_, _≤_, _<_, zero-le}
+use Prim.Native.Nat.{ℕ, _+_, _-_, _*_, _^_, _≤_, _<_, zero-le}
 use native.Mathlib.Omega.{arith}
-use native.Mathlib.Nat.{le-trans, le-of-eq, lt-of-lt-of-le, lt-of-not-le, not-le-of-lt, eq-or-lt-of-le, mul-assoc, mul-one, mul-le-mul-right}
-use native.Mathlib.Numerals.{add-one}
+use native.Mathlib.Nat.{le-trans, le-of-eq, lt-of-lt-of-le, lt-of-not-le, not-le-of-lt, eq-or-lt-of-le, mul-assoc, mul-one}
 use lib.Dec.{T, lit≤, lit<}
 use lib.Pow.{pow-add, pow-pos, pow-mono}
 use lib.Ieee.{Float, nan, inf, fin, binary64, ofBits, le, fits}
 use lib.Ieee.Fits.{mul-fits}
 use lib.Ieee.Scale.{finite}
-use Rattle.loops.specs.Loop.{Flow, on, out}
+use denote.Floats.{passes}
+use Rattle.loops.specs.Loop.{out}
 use Rattle.loops.proofs.Loop.{searched-again, searched-leave, searched-done}
 use Rattle.number.specs.Operators.{_⊗_, _≤?_}
-use Rattle.number.specs.Units.{unit, mag, neg?}
+use Rattle.number.specs.Units.{mag, neg?}
 use Rattle.number.specs.Helpers.{half}
 use Rattle.number.proofs.Values.{Is, is-own, whole}
 use Rattle.number.proofs.Order.{le-through, le→units}
@@ -56,9 +56,6 @@ pub record Halved (a b : Patch) (tol : Tolerance) (dir : Float) (w : Walker) (h�
   pub finite-h : T (tol .confusion ≤? h) → T (finite h)
   pub small : T (tol .confusion ≤? h) → mag h * 2 ^ i ≤ mag longestStride
 
-of-true : {b : Bool} → b ≡ true → T b
-of-true e = subst T (sym e) tt
-
 module _ (a b : Patch) (tol : Tolerance) (dir : Float) (w : Walker) (fit : T (toleranceFit tol)) where
   low : T (leastConfusion ≤? tol .confusion)
   low = fit-tolerance tol fit .0
@@ -92,15 +89,15 @@ module _ (a b : Patch) (tol : Tolerance) (dir : Float) (w : Walker) (fit : T (to
 
     module _ (taken : (tol .confusion ≤? h) ≡ true) where
       large-h : 2 ^ 1034 ≤ mag h
-      large-h = at-least h (v .fits-h) (v .finite-h (of-true taken)) (of-true taken) .1
+      large-h = at-least h (v .fits-h) (v .finite-h (passes _ taken)) (passes _ taken) .1
 
       -- so fewer than 37 halvings led here
       pub below : v .i < 37
       below = lt-of-not-le (λ (g : 37 ≤ v .i). not-le-of-lt tenth-small
-          (le-trans (le-trans (lit≤ {m = 2 ^ 1071} {n = 2 ^ 1034 * 2 ^ 37} tt) (native.Mathlib.Nat.mul-le-mul {n₁ = 2 ^ 1034} {m₁ = 2 ^ 37} large-h (pow-mono g))) (v .small (of-true taken))))
+          (le-trans (le-trans (lit≤ {m = 2 ^ 1071} {n = 2 ^ 1034 * 2 ^ 37} tt) (native.Mathlib.Nat.mul-le-mul {n₁ = 2 ^ 1034} {m₁ = 2 ^ 37} large-h (pow-mono g))) (v .small (passes _ taken))))
 
       halved : (k : ℕ) × (mag h ≡ k * 2) × Is (h ⊗ half) (neg? h) k
-      halved = half-exact h (v .fits-h) (v .finite-h (of-true taken)) (le-trans (lit≤ {m = 2 ^ 53} {n = 2 ^ 1034} tt) large-h)
+      halved = half-exact h (v .fits-h) (v .finite-h (passes _ taken)) (le-trans (lit≤ {m = 2 ^ 53} {n = 2 ^ 1034} tt) large-h)
 
       mag-half : mag (h ⊗ half) ≡ halved .0
       mag-half = is-own (h ⊗ half) (neg? h) (halved .0) (halved .2) .1
@@ -119,7 +116,7 @@ module _ (a b : Patch) (tol : Tolerance) (dir : Float) (w : Walker) (fit : T (to
           same = searched-again (strideStep a b tol dir w) noStride (v .i) 37 below (rw (taken, ← et, e)) (v .same);
           fits-h = mul-fits binary64 h half;
           finite-h = λ l. is-finite (h ⊗ half) (neg? h) (halved .0) (halved .2);
-          small = λ l. le-trans (le-of-eq (scaled (mag (h ⊗ half)) (halved .0) (mag h) (v .i) mag-half (halved .1))) (v .small (of-true taken));
+          small = λ l. le-trans (le-of-eq (scaled (mag (h ⊗ half)) (halved .0) (mag h) (v .i) mag-half (halved .1))) (v .small (passes _ taken));
         }
           where
             is-finite : (x : Float) (s : Bool) (n : ℕ) → Is x s n → T (finite x)

@@ -33,12 +33,12 @@ abbrev pub noStride : Float → Stride
 noStride h = stride.Ended
 
 -- 37 turns: from 0.1 a stride is below 2 ^ -40, and so below every fit confusion, after 37 halvings; no stride is left untried
-abbrev pub turns : ℕ
-turns = 37
+abbrev pub mostTurns : ℕ
+mostTurns = 37
 
 -- the turns from the i-th on
 abbrev pub strideFrom : Patch → Patch → Tolerance → Float → Walker → ℕ → Float → Stride
-strideFrom a b tol dir w i h = searched (strideStep a b tol dir w) noStride i turns (on h)
+strideFrom a b tol dir w i h = searched (strideStep a b tol dir w) noStride i mostTurns (on h)
 
 -- `while h >= tol.confusion`, from the stride h
 unfoldable pub halvingOf : Patch → Patch → Tolerance → Float → Walker → Float → Stride

@@ -1,13 +1,13 @@
 -- The loop of a half: its invariant, what a turn makes of it and what holds at each way out. Assumes nothing.
 use mathlib.Core.Path.{_≡_, refl, ap, sym, subst, _∙_}
 use mathlib.Core.Bool.{Bool, true, false}
-use mathlib.Core.List.{List, [], _∷_, _++_, reverse, reverse-cons, append-nil}
-use Prim.Native.Nat.{ℕ, zero, suc, _+_, _*_, _-_, _≤_, _<_}
+use mathlib.Core.List.{List, [], _∷_, _++_, reverse, reverse-cons}
+use Prim.Native.Nat.{ℕ, _+_, _*_, _-_, _≤_, _<_}
 use native.Mathlib.Omega.{arith}
 use lib.Ieee.{Float}
-use lib.ListN.{length, take, drop, length-append, length-reverse}
-use lib.Seq.{take-at, take-take, length-take-le}
-use Rattle.loops.specs.Loop.{pick, Flow, on, out}
+use lib.ListN.{length, take, length-reverse}
+use lib.Seq.{take-at, take-take}
+use Rattle.loops.specs.Loop.{pick, out}
 use Rattle.loops.proofs.Loop.{searched-again, searched-leave, searched-done}
 use Rattle.groups.specs.declared.row.Row.{Row}
 use Rattle.groups.specs.Row.{numbersOf}
@@ -23,7 +23,7 @@ use Rattle.step.specs.declared.step.Stepped.the-variants.{Onward, Closed, Edge,
 use Rattle.walk.specs.Lent.{placed, rowFor, ownRow, rowsOf}
 use Rattle.step.specs.Step.{stepOf}
 use Rattle.step.specs.Closing.{firstStride}
-use Rattle.walk.specs.Half.{Walked, Halfway, firstWalker, withoutLast, afterStep, halfStep, halfSpent, halfFrom, halfOf}
+use Rattle.walk.specs.Half.{Walked, firstWalker, withoutLast, afterStep, halfStep, halfSpent, halfFrom, halfOf}
 use Rattle.walk.proofs.Lists.{take-over, length-over}
 use Rattle.step.proofs.Steps.{SteppedFine, step-fine}
 

@@ -1,16 +1,15 @@
 -- Both halves in one list: what the parts of a slice leave when they come back, and the points turned round. Assumes nothing.
-use mathlib.Core.Path.{_≡_, refl, ap, sym, subst, _∙_}
+use mathlib.Core.Path.{_≡_, refl, ap, sym, _∙_}
 use mathlib.Core.Bool.{Bool, true, false}
 use mathlib.Core.List.{List, [], _∷_, _++_, append-nil, append-assoc, reverse, reverse-cons, reverse-append}
-use Prim.Native.Nat.{ℕ, zero, suc, _+_, _*_, _-_, _≤_, _<_}
+use Prim.Native.Nat.{ℕ, zero, suc, _+_, _*_, _-_, _≤_}
 use native.Mathlib.Omega.{arith}
-use native.Mathlib.Nat.{add-comm}
 use native.Mathlib.Numerals.{add-one}
 use borrow.Author.Tests.{leb-true, leb-false, le-ltb, lt-ltb}
 use lib.Dec.{leb, ltb}
 use lib.Ieee.{Float}
 use lib.ListN.{length, take, drop, replicate, length-append, length-drop, length-reverse, drop-of-length-le, take-append-drop}
-use lib.Seq.{take-at, drop-at, length-take-le, take-append-le, drop-append-le, take-append-add, drop-append-add, take-length, take-add}
+use lib.Seq.{take-at, drop-at, length-take-le, take-append-le, drop-append-le, take-append-add, take-length, take-add}
 use Rattle.loops.specs.Loop.{pick}
 use Rattle.groups.specs.Row.{numbersOf}
 use Rattle.groups.specs.Row as row
@@ -26,7 +25,7 @@ use Rattle.walk.specs.Line as line
 use Rattle.walk.specs.Trace.{Outcome, room, refusedWalk, finishedOf, settled}
 use Rattle.walk.specs.declared.answer.Traced.the-variants.{Line, Refused}
 use Rattle.walk.proofs.Lists.{length-over}
-use Rattle.walk.proofs.Halves.{rows-append, rows-length}
+use Rattle.walk.proofs.Halves.{rows-append}
 use Rattle.walk.proofs.Turning.{length-turned}
 
 -- ---- the parts of a slice, as they come back

@@ -1,6 +1,6 @@
 -- The lent buffer: points put down and turned round. Definitions only.
 use mathlib.Core.List.{List, [], _∷_, _++_}
-use Prim.Native.Nat.{ℕ, zero, suc, _+_, _*_, _-_}
+use Prim.Native.Nat.{ℕ, zero, suc, _+_, _*_}
 use lib.Ieee.{Float}
 use lib.ListN.{take, drop}
 use Rattle.groups.specs.Groups.{width}

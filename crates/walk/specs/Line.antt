@@ -1,12 +1,10 @@
 -- The line that both halves make. Definitions only.
-use mathlib.Core.Bool.{Bool, _&&_}
-use mathlib.Core.List.{List, [], _∷_, _++_}
-use Prim.Native.Nat.{ℕ, _+_, _*_, _-_}
+use mathlib.Core.List.{List, _∷_, _++_}
+use Prim.Native.Nat.{ℕ, _+_}
 use lib.Ieee.{Float, neg}
-use lib.ListN.{length, take, drop}
+use lib.ListN.{length}
 use Rattle.loops.specs.Loop.{pick}
 use Rattle.number.specs.Operators.{bits}
-use Rattle.groups.specs.Groups.{width}
 use Rattle.vector.specs.declared.Vector3D.{Vector3D}
 use Rattle.tolerance.specs.declared.Tolerance.{Tolerance}
 use Rattle.patch.specs.declared.patch.Patch.{Patch}

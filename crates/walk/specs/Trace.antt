@@ -1,6 +1,6 @@
 -- The call: its refusals, its answer and the lent buffer after it. Definitions only.
 use mathlib.Core.Bool.{Bool, _&&_}
-use mathlib.Core.List.{List, [], _∷_, _++_}
+use mathlib.Core.List.{List, _++_}
 use Prim.Native.Nat.{ℕ, _+_, _*_, _-_}
 use lib.Dec.{leb, ltb}
 use lib.Ieee.{Float}

@@ -1,5 +1,5 @@
 -- `line::digits` meets its contract: what is still to be spelled before the digits put down is what was to be spelled. Assumes nothing.
-use mathlib.Core.Path.{_≡_, _∙_}
+use mathlib.Core.Path.{_≡_}
 use Prim.Native.Nat.{_-_, _≤_}
 use native.Mathlib.Omega.{arith}
 use borrow.Author.Needs.{needs}

@@ -1,5 +1,5 @@
 -- `number::abs` meets its contract: the mask takes the sign bit off a pattern that is no NaN's. Assumes nothing.
-use mathlib.Core.Path.{_≡_, sym, ap, _∙_, subst}
+use mathlib.Core.Path.{sym, ap, _∙_, subst}
 use Prim.Native.Nat.{ℕ}
 use mathlib.Core.Bool.{not}
 use lib.Dec.{T}

@@ -1,5 +1,5 @@
 -- `number::to_bits` meets its contract: at a NaN it writes the pattern that the logic's `toBits` has. Assumes nothing.
-use mathlib.Core.Path.{_≡_, refl, sym, ap, _∙_}
+use mathlib.Core.Path.{refl, sym, ap}
 use lib.Ieee.{binary64, toBits}
 use Rattle.number.proofs.Sign.{is-nan, no-nan}
 use Rattle.number.proofs.to_bits.Statement.{statement}

@@ -1,26 +1,21 @@
 -- `sqrt::at_most` meets its contract: `far` and `near` of `AtMost`, or the root itself. Assumes nothing.
-use mathlib.Core.Path.{_≡_, sym, subst}
-use mathlib.Core.Bool.{Bool, true}
-use lib.Dec.{T}
-use lib.Ieee.{Float, binary64, fits}
+use mathlib.Core.Path.{sym}
+use denote.Floats.{passes}
 use borrow.Author.Needs.{needs}
 use Rattle.sqrt.proofs.AtMost.{far, near}
 use Rattle.sqrt.proofs.at_most.Statement.{statement}
 use Rattle.sqrt.proofs.at_most.Tie as tie
 
-holds : {b : Bool} → b ≡ true → T b
-holds e = subst T (sym e) tt
-
 returns : tie.Need-returns
 returns c =
     let s = c .before .before in
-    sym (far (s .args .x) (s .args .c) (holds (s .good .0 .1)) (holds (s .good .1 .0 .1)) (holds (c .before .if1 .taken)) (holds (c .if2 .taken)))
+    sym (far (s .args .x) (s .args .c) (passes _ (s .good .0 .1)) (passes _ (s .good .1 .0 .1)) (passes _ (c .before .if1 .taken)) (passes _ (c .if2 .taken)))
 
 returns-2 : tie.Need-returns-2
 returns-2 c =
     let o = c .before .before .before in
     let s = o .before .before in
-    sym (near (s .args .x) (s .args .c) (holds (s .good .0 .1)) (holds (s .good .1 .0 .1)) (holds (o .before .if1 .taken)) (holds (c .before .before .if3 .taken)) (holds (c .before .if4 .taken)) (holds (c .if5 .taken)))
+    sym (near (s .args .x) (s .args .c) (passes _ (s .good .0 .1)) (passes _ (s .good .1 .0 .1)) (passes _ (o .before .if1 .taken)) (passes _ (c .before .before .if3 .taken)) (passes _ (c .before .if4 .taken)) (passes _ (c .if5 .taken)))
 
 sqrt-requires : tie.Need-sqrt-requires
 sqrt-requires c κs = search needs

@@ -1,6 +1,5 @@
 -- `wire::one` meets its contract: each way out has its tests, and what it calls its own. Assumes nothing.
 use borrow.Author.Needs.{needs}
-use native.Mathlib.Omega.{arith}
 use Rattle.wire.specs.Wire.{byteAt}
 use Rattle.wire.proofs.one.Statement.{statement}
 use Rattle.wire.proofs.one.Tie as tie

@@ -1,5 +1,5 @@
 -- `meeting::newton::newton` meets its contract. The loop's invariant: the rounds left give what all of them give. Assumes nothing.
-use mathlib.Core.Path.{_≡_, refl, sym, _∙_}
+use mathlib.Core.Path.{_≡_, refl, _∙_}
 use Prim.Native.Nat.{_-_, _≤_}
 use borrow.Author.Needs.{needs}
 use native.Mathlib.Omega.{arith}

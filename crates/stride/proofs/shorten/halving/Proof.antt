@@ -1,5 +1,5 @@
 -- `stride::shorten::halving` meets its contract. The invariant is `Halved`; the measure is the stride in units of 2 ^ -1074. Assumes nothing.
-use mathlib.Core.Path.{_≡_, refl, sym, ap, _∙_, subst}
+use mathlib.Core.Path.{sym, ap, subst}
 use borrow.Author.Needs.{needs}
 use lib.Dec.{T}
 use lib.Ieee.{binary64, fits}

@@ -1,5 +1,5 @@
 -- `walk::half::half` meets its contract. The invariant is `Going`: the buffer holds the points so far, in the order walked. Assumes nothing.
-use mathlib.Core.Path.{_≡_, refl, ap, _∙_}
+use mathlib.Core.Path.{refl, ap, _∙_}
 use Prim.Native.Nat.{_-_, _*_}
 use native.Mathlib.Omega.{arith}
 use borrow.Author.Needs.{needs}

@@ -1,8 +1,6 @@
-use mathlib.Core.Path.{_≡_, refl, ap, sym, _∙_}
-use Prim.Native.Nat.{_-_, _≤_, _<_, _+_, _*_}
+use Prim.Native.Nat.{_-_}
 use native.Mathlib.Omega.{arith}
-use borrow.Author.Needs.{needs}
-use lib.ListN.{length, take, drop, length-set}
+use lib.ListN.{length-set}
 use native.Mathlib.Numerals.{towards-suc}
 use lib.Seq.{sets-eq}
 use denote.Ref.{now}

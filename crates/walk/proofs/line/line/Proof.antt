@@ -1,11 +1,10 @@
 -- `walk::line::line` meets its contract: the start, the forward half behind it, the backward half behind that, then joined. Assumes nothing.
-use mathlib.Core.Path.{_≡_, refl, sym, ap, _∙_}
+use mathlib.Core.Path.{sym, ap, _∙_}
 use mathlib.Core.Bool.{Bool}
-use Prim.Native.Nat.{_+_, _*_, _≤_}
+use Prim.Native.Nat.{_≤_}
 use native.Mathlib.Omega.{arith}
 use borrow.Author.Needs.{needs}
 use denote.Ref.{now}
-use lib.ListN.{length}
 use Rattle.loops.specs.Loop.{pick}
 use Rattle.geometry.specs.declared.point.Point3D.{Point3D}
 use Rattle.walk.specs.Lent.{rowFor}
