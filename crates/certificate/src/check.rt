@@ -1,5 +1,4 @@
 use geometry::Point3D;
-use tolerance::Tolerance;
 use groups::Row;
 use groups::row::point_at;
 use groups::row::row_of;
@@ -7,6 +6,7 @@ use patch::Fitness;
 use patch::Parameters;
 use patch::Patch;
 use refusal::Refusal;
+use tolerance::Tolerance;
 ghost use mathlib.Core.Path.{_≡_};
 ghost use Prim.Native.Nat.{_+_, _*_, _≤_, _<_};
 ghost use lib.ListN.{length};

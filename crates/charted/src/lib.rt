@@ -2,11 +2,11 @@
 use analytic::Surface;
 use geometry::Frame3D;
 use geometry::Point3D;
-use tolerance::Tolerance;
-use vector::Vector3D;
 use patch::Parameters;
 use patch::Patch;
 use patch::Window;
+use tolerance::Tolerance;
+use vector::Vector3D;
 use walk::Traced;
 ghost use mathlib.Core.Path.{_≡_};
 ghost use Rattle.examples.specs.Table.{movedFrame, unitFrame, squarePlane, nineOf};

@@ -1,10 +1,10 @@
 use boxes::Aabb;
 use boxes::Crossed;
 use certificate::check::Checked;
-use tolerance::Tolerance;
 use patch::Located;
 use patch::Parameters;
 use patch::Patch;
+use tolerance::Tolerance;
 use walk::Traced;
 ghost use mathlib.Core.Path.{_≡_};
 ghost use Prim.Native.Nat.{ℕ};

@@ -2,10 +2,10 @@
 use analytic::Derivatives;
 use cramer::Solution2;
 use cramer::Solved2;
-use tolerance::Tolerance;
-use vector::Vector3D;
 use patch::Parameters;
 use patch::Patch;
+use tolerance::Tolerance;
+use vector::Vector3D;
 ghost use mathlib.Core.Path.{_≡_};
 ghost use mathlib.Core.Bool.{true};
 ghost use lib.Dec.{T};

@@ -6,11 +6,11 @@
 use analytic::Surface;
 use geometry::Frame3D;
 use geometry::Point3D;
-use tolerance::Tolerance;
-use vector::Vector3D;
 use patch::Parameters;
 use patch::Patch;
 use patch::Window;
+use tolerance::Tolerance;
+use vector::Vector3D;
 ghost use mathlib.Core.Path.{_≡_};
 ghost use Prim.Native.Nat.{_+_, _≤_};
 ghost use lib.ListN.{length};

@@ -2,12 +2,12 @@
 use crate::closing::closes;
 use crate::closing::next_stride;
 use geometry::Point3D;
-use tolerance::Tolerance;
 use patch::Parameters;
 use patch::Patch;
 use stride::Stride;
 use stride::Walker;
 use stride::shorten::shorten;
+use tolerance::Tolerance;
 ghost use mathlib.Core.Path.{_≡_};
 ghost use Rattle.step.specs.Step.{edgeStep, cameRound, innerStep, stepOf};
 

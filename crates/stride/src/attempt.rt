@@ -1,7 +1,5 @@
 // One attempt at a stride of a given length: the body of the Rust's `while h >= tol.confusion`.
 use geometry::Point3D;
-use tolerance::Tolerance;
-use vector::Vector3D;
 use marching::Direction;
 use marching::Exit;
 use marching::leaving::leaving;
@@ -12,6 +10,8 @@ use meeting::newton::land;
 use meeting::newton::meet_in_plane;
 use patch::Parameters;
 use patch::Patch;
+use tolerance::Tolerance;
+use vector::Vector3D;
 ghost use mathlib.Core.Path.{_≡_};
 ghost use Rattle.stride.specs.Attempt.{keptOf, onEdge, turnOf, smoothOf, acceptedOf, onwardOf, innerOf, landedOf, attemptOf};
 
