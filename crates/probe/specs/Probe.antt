@@ -29,6 +29,7 @@ pub record Probed : Type 0 where
   pub word : ℕ
   pub output : List Float
 
+-- the two as one
 abbrev pub probed : ℕ → List Float → Probed
 probed w out = record { word = w; output = out }
 
@@ -36,24 +37,30 @@ probed w out = record { word = w; output = out }
 abbrev pub orShort : ℕ → ℕ → List Float → List Float → Probed → Probed
 orShort least room s t p = pick (ltb (length s) least) (probed 9 t) (pick (ltb (length t) room) (probed 9 t) p)
 
+-- 1 and the two unknowns, or 0
 abbrev pub written2 : Solved2 → List Float → Probed
 written2 (solved2.Solution x) t = probed 1 (set (set t 0 (x .x0)) 1 (x .x1))
 written2 solved2.Singular t = probed 0 t
 
+-- `solve_2x2` of four numbers by rows, two on the right side, tol
 unfoldable pub probe2Of : List Float → List Float → Probed
 probe2Of s t = orShort 7 2 s t (written2 (solve2Of (rowsAt 2 2 0 s) (rowAt 2 4 s) (getD s 6 nan)) t)
 
+-- 1 and the three unknowns, or 0
 abbrev pub written3 : Solved3 → List Float → Probed
 written3 (solved3.Solution x) t = probed 1 (set (set (set t 0 (x .x0)) 1 (x .x1)) 2 (x .x2))
 written3 solved3.Singular t = probed 0 t
 
+-- `solve_3x3`, likewise
 unfoldable pub probe3Of : List Float → List Float → Probed
 probe3Of s t = orShort 13 3 s t (written3 (solve3Of (rowsAt 3 3 0 s) (rowAt 3 9 s) (getD s 12 nan)) t)
 
+-- 1 and the four unknowns, or 0
 abbrev pub written4 : Solved4 → List Float → Probed
 written4 (solved4.Solution x) t = probed 1 (set (set (set (set t 0 (x .x0)) 1 (x .x1)) 2 (x .x2)) 3 (x .x3))
 written4 solved4.Singular t = probed 0 t
 
+-- `solve_4x4`, likewise
 unfoldable pub probe4Of : List Float → List Float → Probed
 probe4Of s t = orShort 21 4 s t (written4 (solve4Of (rowsAt 4 4 0 s) (rowAt 4 16 s) (getD s 20 nan)) t)
 

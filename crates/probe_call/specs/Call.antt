@@ -8,7 +8,6 @@ use Rattle.number.specs.Operators.{bits, _<?_}
 use Rattle.geometry.specs.declared.point.Point3D.{Point3D}
 use Rattle.vector.specs.declared.Vector3D.{Vector3D}
 use Rattle.geometry.specs.declared.frame.Frame3D.{Frame3D}
-use Rattle.tolerance.specs.declared.Tolerance.{Tolerance}
 use Rattle.geometry.specs.Point.{pointOf}
 use Rattle.vector.specs.Vector.{vectorOf}
 use Rattle.analytic.specs.declared.surface.Surface.{Surface}
@@ -20,13 +19,15 @@ use Rattle.probe_call.specs.declared.Call.{Call}
 
 -- ---- what the numbers mean
 
--- three numbers from at on
+-- a point: three numbers from at on
 unfoldable pub pointFrom : List Float → ℕ → Point3D
 pointFrom s at = pointOf (getD s at nan) (getD s (at + 1) nan) (getD s (at + 2) nan)
 
+-- a vector, likewise
 unfoldable pub vectorFrom : List Float → ℕ → Vector3D
 vectorFrom s at = vectorOf (getD s at nan) (getD s (at + 1) nan) (getD s (at + 2) nan)
 
+-- origin, x, y and z direction
 unfoldable pub frameFrom : List Float → ℕ → Frame3D
 frameFrom s at = record { origin = pointFrom s at; x = vectorFrom s (at + 3); y = vectorFrom s (at + 6); z = vectorFrom s (at + 9) }
 
@@ -50,6 +51,7 @@ patchFrom s at = record {
   v = windowFrom s (at + 18);
 }
 
+-- u and v on A, u and v on B
 unfoldable pub parametersFrom : List Float → ℕ → Parameters
 parametersFrom s at = record { u1 = getD s at nan; v1 = getD s (at + 1) nan; u2 = getD s (at + 2) nan; v2 = getD s (at + 3) nan }
 
@@ -64,8 +66,10 @@ callFrom s = record {
 
 -- ---- what is written
 
+-- a vector at the front
 unfoldable pub putVector : List Float → Vector3D → List Float
 putVector t d = set (set (set t 0 (d .x)) 1 (d .y)) 2 (d .z)
 
+-- four parameters at the front
 unfoldable pub putParameters : List Float → Parameters → List Float
 putParameters t x = set (set (set (set t 0 (x .u1)) 1 (x .v1)) 2 (x .u2)) 3 (x .v2)

@@ -1,5 +1,5 @@
 -- What the probes of surfaces and patches answer and write. Definitions only.
-use mathlib.Core.Bool.{Bool, true}
+use mathlib.Core.Bool.{Bool}
 use mathlib.Core.List.{List}
 use Prim.Native.Nat.{ℕ, _+_}
 use lib.Dec.{eqb, ltb}
@@ -11,7 +11,6 @@ use Rattle.probe_call.specs.Call.{frameFrom}
 use Rattle.refusal.specs.Refusal.{numberOf}
 use Rattle.geometry.specs.declared.point.Point3D.{Point3D}
 use Rattle.analytic.specs.declared.surface.Surface.{Surface}
-use Rattle.analytic.specs.declared.surface.Surface.the-variants.{Plane, Cylinder, Cone, Sphere, Torus}
 use Rattle.analytic.specs.declared.analytic.Derivatives.{Derivatives}
 use Rattle.analytic.specs.Surface.{evalPoint, evalD1}
 use Rattle.patch.specs.declared.patch.Window.{Window}
@@ -19,25 +18,19 @@ use Rattle.patch.specs.declared.patch.Patch.{Patch}
 use Rattle.patch.specs.declared.point.Located.{Located}
 use Rattle.patch.specs.declared.point.Located.the-variants.{At, Refused}
 use Rattle.patch.specs.Located.{locatedOf}
+use Rattle.job.specs.File.{surfaceOf, marked}
 
 -- ---- what the numbers mean: origin, x, y and z direction, two sizes, then low and high of u and of v
 
--- the job file's kinds: 0 plane, 1 cylinder, 2 cone, 3 sphere, 4 torus; used sizes come first
+-- the kinds are the job file's
 unfoldable pub surfaceFrom : ℕ → List Float → Surface
-surfaceFrom kind s =
-    pick (eqb kind 0) (Plane (frameFrom s 0))
-    (pick (eqb kind 1) (Cylinder (frameFrom s 0) (getD s 12 nan))
-    (pick (eqb kind 2) (Cone (frameFrom s 0) (getD s 12 nan) (getD s 13 nan))
-    (pick (eqb kind 3) (Sphere (frameFrom s 0) (getD s 12 nan))
-    (Torus (frameFrom s 0) (getD s 12 nan) (getD s 13 nan)))))
+surfaceFrom kind s = surfaceOf kind (frameFrom s 0) (getD s 12 nan) (getD s 13 nan)
 
--- the job file's marks: "1 for u, 2 for v, added"
-unfoldable pub marked : ℕ → ℕ → Bool
-marked marks one = pick (eqb marks one) true (eqb marks 3)
-
+-- low and high
 unfoldable pub windowFrom : List Float → ℕ → Bool → Window
 windowFrom s at turn = record { low = getD s at nan; high = getD s (at + 1) nan; turn = turn }
 
+-- the surface with its windows; the marks are the job file's
 unfoldable pub patchFrom : ℕ → ℕ → List Float → Patch
 patchFrom kind marks s = record { surface = surfaceFrom kind s; u = windowFrom s 14 (marked marks 1); v = windowFrom s 16 (marked marks 2) }
 
@@ -47,21 +40,25 @@ patchFrom kind marks s = record { surface = surfaceFrom kind s; u = windowFrom s
 unfoldable pub put3 : List Float → ℕ → Float → Float → Float → List Float
 put3 t at x y z = set (set (set t at x) (at + 1) y) (at + 2) z
 
+-- x, y and z at the front
 abbrev pub putPoint : List Float → Point3D → List Float
 putPoint t p = put3 t 0 (p .x) (p .y) (p .z)
 
+-- the derivative by u, then that by v
 abbrev pub putDerivatives : List Float → Derivatives → List Float
 putDerivatives t d = put3 (put3 t 0 (d .u .x) (d .u .y) (d .u .z)) 3 (d .v .x) (d .v .y) (d .v .z)
 
 -- ---- the probes
 
--- answer 0 for a kind above 4, fewer than these numbers in, or these out
+-- 0 for a kind above 4, fewer than 14 numbers in, or fewer than `room` out
 abbrev pub orNone : ℕ → ℕ → List Float → List Float → Probed → Probed
 orNone kind room s t p = pick (ltb 4 kind) (probed 0 t) (pick (ltb (length s) 14) (probed 0 t) (pick (ltb (length t) room) (probed 0 t) p))
 
+-- 1 and the point at (u, v)
 unfoldable pub probePoint : ℕ → List Float → Float → Float → List Float → Probed
 probePoint kind s u v t = orNone kind 3 s t (probed 1 (putPoint t (evalPoint (surfaceFrom kind s) u v)))
 
+-- 1 and the first derivatives at (u, v)
 unfoldable pub probeDerivatives : ℕ → List Float → Float → Float → List Float → Probed
 probeDerivatives kind s u v t = orNone kind 6 s t (probed 1 (putDerivatives t (evalD1 (surfaceFrom kind s) u v)))
 

@@ -11,7 +11,8 @@ ghost use mathlib.Core.Path.{_≡_};
 ghost use Prim.Native.Nat.{_+_, _≤_};
 ghost use lib.ListN.{length};
 ghost use Rattle.probe.specs.Probe.{probed};
-ghost use Rattle.probe_surface.specs.Probe.{surfaceFrom, marked, windowFrom, patchFrom, put3, probePoint, probeDerivatives, probeLocated, probeSurface};
+ghost use Rattle.job.specs.File.{marked};
+ghost use Rattle.probe_surface.specs.Probe.{surfaceFrom, windowFrom, patchFrom, put3, probePoint, probeDerivatives, probeLocated, probeSurface};
 
 fn surface(kind: u64, numbers: &[f64]) -> Surface
     requires { ⌜ 14 ≤ length (now numbers) ⌝ }

@@ -1,6 +1,6 @@
 -- `probe_surface::has_mark` meets its contract: each way out has its tests, and what it calls its own. Assumes nothing.
 use borrow.Author.Tests.{eq-eqb, ne-eqb}
-use Rattle.probe_surface.specs.Probe.{marked}
+use Rattle.job.specs.File.{marked}
 use Rattle.probe_surface.proofs.has_mark.Statement.{statement}
 use Rattle.probe_surface.proofs.has_mark.Tie as tie
 
