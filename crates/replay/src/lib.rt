@@ -1,11 +1,12 @@
 //! What every program that replays recorded outside results shares.
 //!
 //! A list is the program's standard input: records of one size, each some 8-byte big-endian words. A program reads
-//! a record with `next`, takes its words with `word`, counts what it found with `counted`, or `ended` where there was none,
+//! a record with `next`, takes its words with `word` or `load`, counts what it found with `counted`, or `ended` where there was none,
 //! and writes one line with `report`: `square roots: 4123 compared, 0 differ`.
 ghost use mathlib.Core.Path.{_≡_};
 ghost use mathlib.Core.Bool.{true};
-ghost use Rattle.replay.specs.Word.{wordAt};
+ghost use Prim.Native.Nat.{_≤_};
+ghost use Rattle.replay.specs.Word.{wordAt, lesserOf, loadedOf, differOf};
 ghost use Rattle.replay.specs.Tally.{countedOf, endedOf};
 
 // How many records were compared, how many of them differ, which was the first that did (from 0), and whether the list goes on.
@@ -86,6 +87,34 @@ pub fn word(bytes: &[u8], at: usize) -> u64
         return 0;
     }
     wire::eight(bytes, at)
+}
+
+// A length that a record names, cut to what there is room for.
+pub fn at_most(x: u64, most: usize) -> usize
+    ensures { λ r. ⌜ (r ≡ lesserOf x most) × (r ≤ most) ⌝ }
+{
+    if x < most as u64 { x as usize } else { most }
+}
+
+// Fills the numbers with those of the words, from the first on.
+pub fn load(words: &[u8], numbers: &mut [f64])
+    ensures { λ _. ⌜ now (numbers .exit) ≡ loadedOf (now (words .entry)) (now (numbers .entry)) ⌝ }
+{
+    for k in 0..numbers.len() {
+        numbers[k] = number::from_bits(word(words, 8 * k));
+    }
+}
+
+// Whether the bits of some number are not those of its word.
+pub fn differ(words: &[u8], numbers: &[f64]) -> bool
+    ensures { λ r. ⌜ r ≡ differOf (now (words .entry)) (now (numbers .entry)) ⌝ }
+{
+    for k in 0..numbers.len() {
+        if number::to_bits(numbers[k]) != word(words, 8 * k) {
+            return true;
+        }
+    }
+    false
 }
 
 // Writes the line: what was compared, how many, how many differ, and the first that does.

@@ -6,26 +6,12 @@ use replay::Tally;
 ghost use Prim.Native.Nat.{_*_, _≤_};
 ghost use lib.ListN.{length};
 
-// A length of the list, which never names more than there are.
-fn at_most(x: u64, most: usize) -> usize
-    ensures { λ r. ⌜ r ≤ most ⌝ }
-{
-    if x < most as u64 { x as usize } else { most }
-}
-
-fn numbers(words: &[u8]) -> [f64; 140] {
-    let mut trace = [0.0; 140];
-    for k in 0..140usize {
-        trace[k] = number::from_bits(replay::word(words, 8 * k));
-    }
-    trace
-}
-
 // The proved answer to the recorded claim.
 fn answer(head: &[u8], job: &[u8], words: &[u8], lent: usize) -> u64
     requires { ⌜ lent ≤ 140 ⌝ }
 {
-    let trace = numbers(words);
+    let mut trace = [0.0; 140];
+    replay::load(words, &mut trace);
     let count = replay::word(head, 16);
     let start = replay::word(head, 24);
     let code = replay::word(head, 32);
@@ -50,8 +36,8 @@ fn one(tally: Tally) -> Tally {
     if !replay::next(&mut job) {
         return replay::ended(tally);
     }
-    let bytes = at_most(replay::word(&head, 0), 352);
-    let lent = at_most(replay::word(&head, 8), 140);
+    let bytes = replay::at_most(replay::word(&head, 0), 352);
+    let lent = replay::at_most(replay::word(&head, 8), 140);
     if !load(&mut words, lent) {
         return replay::ended(tally);
     }

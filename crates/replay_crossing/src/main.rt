@@ -3,7 +3,8 @@
 //! A record is 120 words: confusion, angular, how many numbers are lent, the count, how many corners are given, six corners,
 //! the answer's word, and three coordinates for each of 36 points, zeros behind.
 use replay::Tally;
-ghost use Prim.Native.Nat.{_≤_};
+ghost use mathlib.Core.Path.{_≡_};
+ghost use lib.ListN.{length};
 
 // The lent numbers. The parameters are NaNs: no answer depends on them.
 fn numbers(record: &[u8]) -> [f64; 252] {
@@ -15,37 +16,25 @@ fn numbers(record: &[u8]) -> [f64; 252] {
     lent
 }
 
-fn corners(record: &[u8]) -> [f64; 6] {
-    let mut given = [0.0; 6];
-    for k in 0..6usize {
-        given[k] = number::from_bits(replay::word(record, 40 + 8 * k));
-    }
-    given
-}
-
-// A length of the list, which never names more than there are.
-fn length(x: u64, most: usize) -> usize
-    ensures { λ r. ⌜ r ≤ most ⌝ }
-{
-    if x < most as u64 { x as usize } else { most }
-}
-
 // The proved answer to the recorded call, on as many of the numbers and corners as it gives.
-fn answer(record: &[u8], buffer: &[f64], sides: &[f64]) -> u64 {
-    let confusion = number::from_bits(replay::word(record, 0));
-    let angular = number::from_bits(replay::word(record, 8));
-    let lent = length(replay::word(record, 16), buffer.len());
-    let given = length(replay::word(record, 32), sides.len());
-    let count = replay::word(record, 24);
-    let trace = &buffer[0..lent];
-    let corners = &sides[0..given];
-    capi::geomcore_crossing(confusion, angular, trace, count, corners)
-}
-
-fn said(record: &[u8]) -> u64 {
-    let buffer = numbers(record);
-    let sides = corners(record);
-    answer(record, &buffer, &sides)
+fn said(words: &[u8]) -> u64
+    requires { ⌜ length (now words) ≡ 960 ⌝ }
+{
+    let mut tolerance = [0.0; 2];
+    let mut sides = [0.0; 6];
+    let buffer = numbers(words);
+    replay::load(words, &mut tolerance);
+    replay::load(&words[40..], &mut sides);
+    let lent = replay::at_most(replay::word(words, 16), 252);
+    let given = replay::at_most(replay::word(words, 32), 6);
+    let count = replay::word(words, 24);
+    capi::geomcore_crossing(
+        tolerance[0],
+        tolerance[1],
+        &buffer[0..lent],
+        count,
+        &sides[0..given],
+    )
 }
 
 // The next record.

@@ -2,38 +2,24 @@
 //!
 //! A record is 61 words: the function (0 tangent, 1 predict, 2 leaving, 3 meet, 4 meet in a plane, 5 land), the pin, 54 numbers, the
 //! answer's word, and 4 words of output, zeros where nothing is written.
-
 use replay::Tally;
+ghost use mathlib.Core.Path.{_≡_};
+ghost use lib.ListN.{length};
 
-// The numbers handed to the step.
-fn input(record: &[u8]) -> [f64; 54] {
+// Whether the recorded answer is given, in bits.
+fn same(words: &[u8]) -> bool
+    requires { ⌜ length (now words) ≡ 488 ⌝ }
+{
     let mut numbers = [0.0; 54];
-    for k in 0..54usize {
-        numbers[k] = number::from_bits(replay::word(record, 16 + 8 * k));
-    }
-    numbers
-}
-
-// Whether the output is the recorded one, in bits.
-fn recorded(record: &[u8], output: [f64; 4]) -> bool {
-    for k in 0..4usize {
-        if number::to_bits(output[k]) != replay::word(record, 456 + 8 * k) {
-            return false;
-        }
-    }
-    true
-}
-
-fn same(record: &[u8]) -> bool {
     let mut output = [0.0; 4];
-    let step = replay::word(record, 0);
-    let pin = replay::word(record, 8);
-    let numbers = input(record);
+    replay::load(&words[16..], &mut numbers);
+    let step = replay::word(words, 0);
+    let pin = replay::word(words, 8);
     let said = probe_marching::probe_step(step, pin, &numbers, &mut output);
-    if said != replay::word(record, 448) {
+    if said != replay::word(words, 448) {
         return false;
     }
-    recorded(record, output)
+    !replay::differ(&words[456..], &output)
 }
 
 // The next record.

@@ -2,36 +2,22 @@
 //!
 //! A record is 27 words: the number of unknowns, the matrix row by row with the right side and tol (21 words at most,
 //! zeros behind), the answer's word, and the solution (4 words at most, zeros behind).
-
 use replay::Tally;
+ghost use mathlib.Core.Path.{_≡_};
+ghost use lib.ListN.{length};
 
-// The numbers handed to the solver.
-fn input(record: &[u8]) -> [f64; 21] {
+// Whether the recorded answer is given, in bits.
+fn same(words: &[u8]) -> bool
+    requires { ⌜ length (now words) ≡ 216 ⌝ }
+{
     let mut numbers = [0.0; 21];
-    for k in 0..21usize {
-        numbers[k] = number::from_bits(replay::word(record, 8 + 8 * k));
-    }
-    numbers
-}
-
-// Whether the output is the recorded one, in bits.
-fn recorded(record: &[u8], output: [f64; 4]) -> bool {
-    for k in 0..4usize {
-        if number::to_bits(output[k]) != replay::word(record, 184 + 8 * k) {
-            return false;
-        }
-    }
-    true
-}
-
-fn same(record: &[u8]) -> bool {
     let mut output = [0.0; 4];
-    let numbers = input(record);
-    let said = probe::probe_solve(replay::word(record, 0), &numbers, &mut output);
-    if said != replay::word(record, 176) {
+    replay::load(&words[8..], &mut numbers);
+    let said = probe::probe_solve(replay::word(words, 0), &numbers, &mut output);
+    if said != replay::word(words, 176) {
         return false;
     }
-    recorded(record, output)
+    !replay::differ(&words[184..], &output)
 }
 
 // The next record.

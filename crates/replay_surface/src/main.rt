@@ -2,41 +2,32 @@
 //!
 //! A record is 30 words: what is asked (0 a point, 1 both first derivatives, 2 the public point), the kind, the marks, 18 numbers (frame,
 //! two sizes, two windows), u, v, the answer's word, and the numbers written (6 words at most, zeros behind).
-
 use replay::Tally;
+ghost use mathlib.Core.Path.{_≡_};
+ghost use lib.ListN.{length};
 
-// The numbers of the patch.
-fn input(record: &[u8]) -> [f64; 18] {
+// Whether the recorded answer is given, in bits.
+fn same(words: &[u8]) -> bool
+    requires { ⌜ length (now words) ≡ 240 ⌝ }
+{
     let mut numbers = [0.0; 18];
-    for k in 0..18usize {
-        numbers[k] = number::from_bits(replay::word(record, 24 + 8 * k));
-    }
-    numbers
-}
-
-// Whether the output is the recorded one, in bits.
-fn recorded(record: &[u8], output: [f64; 6]) -> bool {
-    for k in 0..6usize {
-        if number::to_bits(output[k]) != replay::word(record, 192 + 8 * k) {
-            return false;
-        }
-    }
-    true
-}
-
-fn same(record: &[u8]) -> bool {
+    let mut parameters = [0.0; 2];
     let mut output = [0.0; 6];
-    let what = replay::word(record, 0);
-    let kind = replay::word(record, 8);
-    let marks = replay::word(record, 16);
-    let u = number::from_bits(replay::word(record, 168));
-    let v = number::from_bits(replay::word(record, 176));
-    let numbers = input(record);
-    let said = probe_surface::probe_surface(what, kind, marks, &numbers, u, v, &mut output);
-    if said != replay::word(record, 184) {
+    replay::load(&words[24..], &mut numbers);
+    replay::load(&words[168..], &mut parameters);
+    let said = probe_surface::probe_surface(
+        replay::word(words, 0),
+        replay::word(words, 8),
+        replay::word(words, 16),
+        &numbers,
+        parameters[0],
+        parameters[1],
+        &mut output,
+    );
+    if said != replay::word(words, 184) {
         return false;
     }
-    recorded(record, output)
+    !replay::differ(&words[192..], &output)
 }
 
 // The next record.

@@ -18,34 +18,12 @@ fn filled() -> [f64; 185] {
     buffer
 }
 
-// A length of the list, which never names more than there are.
-fn at_most(x: u64, most: usize) -> usize
-    ensures { λ r. ⌜ r ≤ most ⌝ }
-{
-    if x < most as u64 { x as usize } else { most }
-}
-
-// Whether the first numbers are the recorded ones, in bits.
-fn recorded(words: &[u8], lent: usize, buffer: [f64; 185]) -> bool
-    requires { ⌜ lent ≤ 185 ⌝ }
-{
-    for k in 0..lent {
-        if number::to_bits(buffer[k]) != replay::word(words, 8 * k) {
-            return false;
-        }
-    }
-    true
-}
-
-// The proved answer to the recorded job, on as many numbers as it lends, against the recorded one.
-fn same(job: &[u8], lent: usize, said: u64, words: &[u8]) -> bool
-    requires { ⌜ lent ≤ 185 ⌝ }
-{
-    let mut buffer = filled();
-    if capi::geomcore_trace(job, &mut buffer[0..lent]) != said {
+// The proved answer to the recorded job and the numbers lent after the call, against the recorded ones.
+fn same(job: &[u8], lent: &mut [f64], said: u64, words: &[u8]) -> bool {
+    if capi::geomcore_trace(job, lent) != said {
         return false;
     }
-    recorded(words, lent, buffer)
+    !replay::differ(words, &*lent)
 }
 
 // The words of as many numbers as are lent. False at the end of the list.
@@ -66,13 +44,15 @@ fn one(tally: Tally) -> Tally {
     if !replay::next(&mut job) {
         return replay::ended(tally);
     }
-    let bytes = at_most(replay::word(&head, 0), 352);
-    let lent = at_most(replay::word(&head, 8), 185);
+    let bytes = replay::at_most(replay::word(&head, 0), 352);
+    let lent = replay::at_most(replay::word(&head, 8), 185);
     if !load(&mut words, lent) {
         return replay::ended(tally);
     }
     let said = replay::word(&head, 16);
-    replay::counted(tally, same(&job[0..bytes], lent, said, &words))
+    let mut buffer = filled();
+    let agree = same(&job[0..bytes], &mut buffer[0..lent], said, &words);
+    replay::counted(tally, agree)
 }
 
 // A proved loop has to end, so this one counts its turns down from a number that no list uses up.

@@ -7,16 +7,16 @@ use lib.ListN.{length}
 use borrow.Author.Needs.{needs}
 use borrow.Author.Tests.{le-leb, lt-leb}
 use denote.Ref.{now}
-use Rattle.wire.specs.Wire.{eightAt}
 use Rattle.replay.specs.Word.{wordAt}
+use Rattle.wire.specs.Wire.{eightAt}
 use Rattle.replay.proofs.word.Statement.{statement}
 use Rattle.replay.proofs.word.Tie as tie
 
 short : (s : List ℕ) (at : ℕ) → length s < at + 8 → 0 ≡ wordAt s at
 short s at h = rw (lt-leb (at + 8) (length s) h)
 
-long : (s : List ℕ) (at p : ℕ) → at + 8 ≤ length s → p ≡ eightAt s at → p ≡ wordAt s at
-long s at p h e = rw (le-leb (at + 8) (length s) h) e
+long : (s : List ℕ) (at w : ℕ) → at + 8 ≤ length s → w ≡ eightAt s at → w ≡ wordAt s at
+long s at w h e = rw (le-leb (at + 8) (length s) h) e
 
 returns : tie.Need-returns
 returns c = short (now (c .before .before .args .bytes)) (c .before .before .args .at) (omega arith)
