@@ -1,5 +1,6 @@
 //! A job answered: its file read, the line walked over numbers lent here, and the answer's line made.
 use job::JobRead;
+use line::LINE;
 use walk::Traced;
 ghost use mathlib.Core.Path.{_≡_};
 ghost use lib.ListN.{length};
@@ -7,7 +8,7 @@ ghost use Rattle.line.specs.Line.{written};
 ghost use Rattle.answer.specs.Answer.{answerLine, answerOf, jobAnswer};
 
 // Puts the answer's line at the front of the lent bytes; how many it has.
-fn put_line(answer: Traced, line: &mut [u8; 69]) -> usize
+fn put_line(answer: Traced, line: &mut [u8; LINE]) -> usize
     ensures { λ r. ⌜ (r ≡ length (answerLine answer)) × (now (line .exit) ≡ written (answerLine answer) (now (line .entry))) ⌝ }
 {
     match answer {
@@ -27,7 +28,7 @@ fn answer_of(input: &[u8]) -> Traced
         JobRead::Refused(refusal) => Traced::Refused(refusal),
         JobRead::Whole(asked) => {
             let mut lent = [0.0; 7007];
-            walk::trace::trace(
+            geomcore::call::trace(
                 asked.a,
                 asked.b,
                 asked.tol,
@@ -40,7 +41,7 @@ fn answer_of(input: &[u8]) -> Traced
 }
 
 // Puts the line that answers a job file at the front of the lent bytes; how many it has.
-pub fn answer(input: &[u8], line: &mut [u8; 69]) -> usize
+pub fn answer(input: &[u8], line: &mut [u8; LINE]) -> usize
     ensures { λ r. ⌜ (r ≡ length (jobAnswer (now (input .entry)))) × (now (line .exit) ≡ written (jobAnswer (now (input .entry))) (now (line .entry))) ⌝ }
 {
     put_line(answer_of(input), line)

@@ -72,7 +72,7 @@ fn point_on(patch: Patch, u: f64, v: f64, out: &mut [f64]) -> u64
     if out.len() < 3 {
         return 8;
     }
-    let located = patch::point::point(patch, u, v);
+    let located = geomcore::call::point(patch, u, v);
     match located {
         Located::Refused(refusal) => refusal.number(),
         Located::At(p) => {
@@ -117,7 +117,7 @@ pub extern "C" fn geomcore_trace(job: &[u8], buffer: &mut [f64]) -> u64
     let read = job::file::read(job);
     match read {
         JobRead::Refused(refusal) => refusal.number(),
-        JobRead::Whole(asked) => traced_word(walk::trace::trace(
+        JobRead::Whole(asked) => traced_word(geomcore::call::trace(
             asked.a,
             asked.b,
             asked.tol,
@@ -154,7 +154,7 @@ pub extern "C" fn geomcore_check(
     let read = job::file::read(job);
     match read {
         JobRead::Refused(refusal) => refusal.number(),
-        JobRead::Whole(asked) => checked_word(certificate::check::check(
+        JobRead::Whole(asked) => checked_word(geomcore::call::check(
             asked.a,
             asked.b,
             asked.tol,
@@ -208,5 +208,5 @@ pub extern "C" fn geomcore_crossing(
         low: corner(corners, 0),
         high: corner(corners, 3),
     };
-    crossed_word(boxes::crossing::crossing(tol, buffer, count as usize, b))
+    crossed_word(geomcore::call::crossing(tol, buffer, count as usize, b))
 }

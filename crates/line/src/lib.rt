@@ -53,7 +53,7 @@ fn append_number(line: &mut [u8], at: usize, n: u64) -> usize
 }
 
 // Puts the line of a trace at the front of the lent bytes; how many it has.
-pub fn trace_line(count: u64, start: u64, code: u64, line: &mut [u8; 69]) -> usize
+pub fn trace_line(count: u64, start: u64, code: u64, line: &mut [u8; LINE]) -> usize
     ensures { λ r. ⌜ (r ≡ length (traceLine count start code)) × (now (line .exit) ≡ written (traceLine count start code) (now (line .entry))) ⌝ }
 {
     let a = append(line, 0, b"trace ");
@@ -66,7 +66,7 @@ pub fn trace_line(count: u64, start: u64, code: u64, line: &mut [u8; 69]) -> usi
 }
 
 // Puts the line of a refusal at the front of the lent bytes; how many it has.
-pub fn refused_line(number: u64, line: &mut [u8; 69]) -> usize
+pub fn refused_line(number: u64, line: &mut [u8; LINE]) -> usize
     ensures { λ r. ⌜ (r ≡ length (refusedLine number)) × (now (line .exit) ≡ written (refusedLine number) (now (line .entry))) ⌝ }
 {
     let a = append(line, 0, b"refused ");

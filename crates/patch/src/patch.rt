@@ -176,7 +176,7 @@ impl Window {
     }
 
     // Whether x lies inside the window, where that applies; a NaN does not.
-    pub fn holds(self, x: f64) -> bool
+    fn holds(self, x: f64) -> bool
         ensures { λ r. ⌜ r ≡ windowHolds self x ⌝ }
     {
         if self.turn {
@@ -189,7 +189,7 @@ impl Window {
     }
 
     // x clamped to the window, where that applies.
-    pub fn bounded(self, x: f64) -> f64
+    fn bounded(self, x: f64) -> f64
         ensures { λ r. ⌜ r ≡ boundedOf self x ⌝ }
     {
         if self.turn {

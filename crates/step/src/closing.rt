@@ -12,7 +12,7 @@ fn along(start: Point3D, p: Point3D, q: Point3D) -> f64
 }
 
 // Whether the chord from p to q passes the start closely enough.
-pub fn closes(confusion: f64, start: Point3D, p: Point3D, q: Point3D) -> bool
+pub(crate) fn closes(confusion: f64, start: Point3D, p: Point3D, q: Point3D) -> bool
     ensures { λ r. ⌜ r ≡ closesOf confusion start p q ⌝ }
 {
     let s = along(start, p, q);
@@ -37,7 +37,7 @@ pub fn first_stride(confusion: f64) -> f64
 
 // The length to try after a stride of length h: twice that, at most 0.1, and short enough for the curvature. Where that does not bend the
 // line, no root is taken.
-pub fn next_stride(confusion: f64, h: f64, curvature: f64) -> f64
+pub(crate) fn next_stride(confusion: f64, h: f64, curvature: f64) -> f64
     ensures { λ r. ⌜ r ≡ nextStride confusion h curvature ⌝ }
 {
     let bend = 8.0 * (1000.0 * confusion) / number::max(curvature, number::MIN_POSITIVE);

@@ -156,7 +156,7 @@ fn inner(
 }
 
 // What the stride of length h leads to.
-pub fn attempt(a: Patch, b: Patch, tol: Tolerance, dir: f64, w: Walker, h: f64) -> Tried
+pub(crate) fn attempt(a: Patch, b: Patch, tol: Tolerance, dir: f64, w: Walker, h: f64) -> Tried
     ensures { λ r. ⌜ r ≡ attemptOf a b tol dir w h ⌝ }
 {
     let x = w.x;

@@ -16,6 +16,7 @@ use vector::Vector3D;
 ghost use mathlib.Core.Path.{_≡_};
 ghost use Prim.Native.Nat.{_+_, _*_, _≤_};
 ghost use lib.ListN.{length};
+ghost use Rattle.loops.specs.Loop.{pick};
 ghost use Rattle.groups.specs.Groups.{width};
 ghost use Rattle.patch.specs.Located.{pointA};
 ghost use Rattle.walk.specs.Lent.{joinedOf};
@@ -47,6 +48,13 @@ fn finish(points: &mut [f64], count: usize, start: usize, closing: usize) -> Tra
     Traced::Line(count, start, closing)
 }
 
+// The closing code of a line that did not close forward: 2 where its backward half closed.
+fn backward_code(closed: bool) -> usize
+    ensures { λ r. ⌜ r ≡ pick closed 2 0 ⌝ }
+{
+    if closed { 2 } else { 0 }
+}
+
 // The line through the meeting with parameters x, whose point of A is p and whose tangent is t.
 pub(crate) fn line(
     points: &mut [f64],
@@ -70,8 +78,6 @@ pub(crate) fn line(
     let backward = half(&mut points[behind..], a, b, tol, -1.0, x, p, t, n);
     join(&mut *points, forward.count, backward.count);
     let count = 1 + forward.count + backward.count;
-    if backward.closed {
-        return finish(&mut *points, count, backward.count, 2);
-    }
-    finish(&mut *points, count, backward.count, 0)
+    let closing = backward_code(backward.closed);
+    finish(&mut *points, count, backward.count, closing)
 }

@@ -31,7 +31,7 @@ same-length c = search needs
 
 returns-2 : tie.Need-returns-2
 unfolding traceAnswer
-returns-2 c = rw (← c .before .before .before .before .before .before .before .before .read .ensures, c .before .before .before .before .before .before .read3 .given .1, ← c .before .before .before .trace .ensures .0, ← c .before .before .before .trace .ensures .1, ← c .traced-word .ensures)
+returns-2 c = rw (← c .before .before .before .before .before .before .before .before .read .ensures, c .before .before .before .before .before .before .read3 .given .1, ← c .before .before .before .trace .ensures .0, ← c .before .before .before .trace .ensures .1 .0, ← c .traced-word .ensures)
 
 pub geomcore-trace-spec : {M : Type 1} → statement M
 geomcore-trace-spec =

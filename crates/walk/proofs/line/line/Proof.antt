@@ -96,7 +96,6 @@ add-count : tie.Need-add-count
 add-count c =
     let st = c .before .before .before .before .before .before .before .before .before .before .before .before .before .before .before .before .before .before .before .before .before in
     let g = st .args in
-    let pu = c .before .before .before .before .before .before .before .before .before .before .before .before .before .before .before .before .before in
     let h₁ = c .before .before .before .before .before .before .before .before .before .before .before .before .before in
     let h₂ = c .before .before .before .before .before .before .before in
     let n₂ : g .n ≤ 2000 = st .pre .1 .0 in
@@ -108,13 +107,15 @@ add-count-2 : tie.Need-add-count-2
 add-count-2 c =
     let st = c .before .before .before .before .before .before .before .before .before .before .before .before .before .before .before .before .before .before .before .before .before .before in
     let g = st .args in
-    let pu = c .before .before .before .before .before .before .before .before .before .before .before .before .before .before .before .before .before .before in
     let h₁ = c .before .before .before .before .before .before .before .before .before .before .before .before .before .before in
     let h₂ = c .before .before .before .before .before .before .before .before in
     let n₂ : g .n ≤ 2000 = st .pre .1 .0 in
     let f₁ : h₁ .half .result .count ≤ g .n = h₁ .half .ensures .1 .1 .0 in
     let f₂ : h₂ .half2 .result .count ≤ g .n = h₂ .half2 .ensures .1 .1 .0 in
     search needs
+
+backward-code-requires : tie.Need-backward-code-requires
+backward-code-requires c κs = search needs
 
 finish-requires-2 : tie.Need-finish-requires-2
 finish-requires-2 c κs =
@@ -141,36 +142,9 @@ returns-2 c =
     let h₁ = c .before .before .before .before .before .before .before .before .before .before .before .before .before .before .before .before .before .before .before in
     let h₂ = c .before .before .before .before .before .before .before .before .before .before .before .before .before in
     let j = c .before .before .before .before .before .before .before .before .before in
-    let e = settled-both (g .a) (g .b) (g .tol) (g .x) (g .t) (g .n) (now (g .points)) (pu .put .last .0) (h₁ .half .last .0) (pu .before .row-for .result) (h₁ .half .result .count) (st .pre .1 .1) (pu .put .ensures) (h₁ .half .kept .0) (h₁ .half .ensures .1 .1 .0) (pu .before .row-for .ensures ∙ ap (λ (q : Point3D). rowFor q (g .x)) (st .pre .0)) (h₁ .half .ensures .0) (h₁ .half .ensures .1 .1 .1) (h₂ .half2 .last .0) (j .join .last .0) (h₂ .half2 .result .count) (h₂ .half2 .kept .0) (h₂ .half2 .ensures .1 .1 .0) (h₂ .half2 .ensures .0) (h₂ .half2 .ensures .1 .1 .1) (j .join .ensures) (j .join .kept .0) 2 (sym (h₁ .half .ensures .1 .0) ∙ c .before .before .before .before .before .before .before .before .before .before .before .before .before .before .before .before .if1 .left) (ap (λ (t : Bool). pick t 2 0) (sym (c .before .before .before .before .if2 .taken) ∙ h₂ .half2 .ensures .1 .0)) in
+    let d = c .before .before .before .before in
+    let e = settled-both (g .a) (g .b) (g .tol) (g .x) (g .t) (g .n) (now (g .points)) (pu .put .last .0) (h₁ .half .last .0) (pu .before .row-for .result) (h₁ .half .result .count) (st .pre .1 .1) (pu .put .ensures) (h₁ .half .kept .0) (h₁ .half .ensures .1 .1 .0) (pu .before .row-for .ensures ∙ ap (λ (q : Point3D). rowFor q (g .x)) (st .pre .0)) (h₁ .half .ensures .0) (h₁ .half .ensures .1 .1 .1) (h₂ .half2 .last .0) (j .join .last .0) (h₂ .half2 .result .count) (h₂ .half2 .kept .0) (h₂ .half2 .ensures .1 .1 .0) (h₂ .half2 .ensures .0) (h₂ .half2 .ensures .1 .1 .1) (j .join .ensures) (j .join .kept .0) (d .backward-code .result) (sym (h₁ .half .ensures .1 .0) ∙ c .before .before .before .before .before .before .before .before .before .before .before .before .before .before .before .before .if1 .left) (d .backward-code .ensures ∙ ap (λ (t : Bool). pick t 2 0) (h₂ .half2 .ensures .1 .0)) in
     (c .before .before .finish2 .ensures .0 ∙ ap (λ (o : Outcome). o .answer) e, c .before .before .finish2 .ensures .1 ∙ ap (λ (o : Outcome). o .buffer) e)
-
-finish-requires-3 : tie.Need-finish-requires-3
-finish-requires-3 c κs =
-    let st = c .before .before .before .before .before .before .before .before .before .before .before .before .before .before .before .before .before .before .before .before .before .before .before .before in
-    let g = st .args in
-    let pu = c .before .before .before .before .before .before .before .before .before .before .before .before .before .before .before .before .before .before .before .before in
-    let h₁ = c .before .before .before .before .before .before .before .before .before .before .before .before .before .before .before .before in
-    let h₂ = c .before .before .before .before .before .before .before .before .before .before in
-    let n₂ : g .n ≤ 2000 = st .pre .1 .0 in
-    let f₁ : h₁ .half .result .count ≤ g .n = h₁ .half .ensures .1 .1 .0 in
-    let f₂ : h₂ .half2 .result .count ≤ g .n = h₂ .half2 .ensures .1 .1 .0 in
-    let e = len₃ (g .a) (g .b) (g .tol) (g .x) (g .t) (g .n) (now (g .points)) (pu .put .last .0) (h₁ .half .last .0) (pu .before .row-for .result) (h₁ .half .result .count) (st .pre .1 .1) (pu .put .ensures) (h₁ .half .kept .0) (h₁ .half .ensures .1 .1 .0) (h₂ .half2 .last .0) (h₂ .half2 .kept .0) in
-    let k = c .before .before .before .before .before .before .join .kept .0 ∙ e in
-    (omega (arith, k, f₁, f₂, n₂), omega (arith, f₁, f₂, n₂))
-
-same-length-3 : tie.Need-same-length-3
-same-length-3 c = search needs
-
-returns-3 : tie.Need-returns-3
-returns-3 c =
-    let st = c .before .before .before .before .before .before .before .before .before .before .before .before .before .before .before .before .before .before .before .before .before .before .before .before .before .before .before in
-    let g = st .args in
-    let pu = c .before .before .before .before .before .before .before .before .before .before .before .before .before .before .before .before .before .before .before .before .before .before .before in
-    let h₁ = c .before .before .before .before .before .before .before .before .before .before .before .before .before .before .before .before .before .before .before in
-    let h₂ = c .before .before .before .before .before .before .before .before .before .before .before .before .before in
-    let j = c .before .before .before .before .before .before .before .before .before in
-    let e = settled-both (g .a) (g .b) (g .tol) (g .x) (g .t) (g .n) (now (g .points)) (pu .put .last .0) (h₁ .half .last .0) (pu .before .row-for .result) (h₁ .half .result .count) (st .pre .1 .1) (pu .put .ensures) (h₁ .half .kept .0) (h₁ .half .ensures .1 .1 .0) (pu .before .row-for .ensures ∙ ap (λ (q : Point3D). rowFor q (g .x)) (st .pre .0)) (h₁ .half .ensures .0) (h₁ .half .ensures .1 .1 .1) (h₂ .half2 .last .0) (j .join .last .0) (h₂ .half2 .result .count) (h₂ .half2 .kept .0) (h₂ .half2 .ensures .1 .1 .0) (h₂ .half2 .ensures .0) (h₂ .half2 .ensures .1 .1 .1) (j .join .ensures) (j .join .kept .0) 0 (sym (h₁ .half .ensures .1 .0) ∙ c .before .before .before .before .before .before .before .before .before .before .before .before .before .before .before .before .if1 .left) (ap (λ (t : Bool). pick t 2 0) (sym (c .before .before .before .before .if2 .left) ∙ h₂ .half2 .ensures .1 .0)) in
-    (c .before .before .finish3 .ensures .0 ∙ ap (λ (o : Outcome). o .answer) e, c .before .before .finish3 .ensures .1 ∙ ap (λ (o : Outcome). o .buffer) e)
 
 pub line-spec : {M : Type 1} → statement M
 line-spec =
@@ -196,9 +170,7 @@ line-spec =
     join-requires
     add-count
     add-count-2
+    backward-code-requires
     finish-requires-2
     same-length-2
-    returns-2
-    finish-requires-3
-    same-length-3
-    returns-3)
+    returns-2)
