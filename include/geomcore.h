@@ -23,12 +23,13 @@ double geomcore_cos(double x);
 double geomcore_atan2(double y, double x);
 
 /* The point at (u, v) of a surface given by its 146 bytes: 0, and x, y, z in the first three numbers of out; or the refusal's number.
- * Fewer than 146 bytes are refused by 19, fewer than three numbers lent by 8. */
+ * Tested in this order: 19 for bytes that are no surface, 8 for fewer than three numbers lent, 1 to 4, 6; a refusal writes nothing. */
 uint64_t geomcore_point(const uint8_t *surface, size_t bytes, double u, double v, double *out, size_t room);
 
 /* Walks the line where the two surfaces of a job file meet, over the lent numbers, at least 7 (2 cap + 1) of them: the refusal's number
  * + 2^8 times the closing code (0 open, 1 closed forward, 2 closed backward) + 2^16 times the start's index + 2^32 times the count of
- * points. Seven numbers a point stand first (x, y, z, u, v on A, u, v on B), then zeros; refusals 9 to 11 leave zeros alone. */
+ * points. Seven numbers a point stand first (x, y, z, u, v on A, u, v on B), then zeros up to 7 (2 cap + 1);
+ * refusals 9 to 11 leave nothing but zeros there, the others write nothing. */
 uint64_t geomcore_trace(const uint8_t *job, size_t bytes, double *buffer, size_t lent);
 
 /* Whether a trace of count points, seven numbers each (x, y, z, u, v on A, u, v on B), with its start's index and closing code, passes the
@@ -37,7 +38,8 @@ uint64_t geomcore_trace(const uint8_t *job, size_t bytes, double *buffer, size_t
 uint64_t geomcore_check(const uint8_t *job, size_t bytes, const double *buffer, size_t lent, uint64_t count,
                         uint64_t start, uint64_t code);
 
-/* Whether a trace of count points crosses a box: the refusal's number + 256 if it does. corners: low x, y, z, then high. */
+/* Whether a trace of count points crosses a box: the refusal's number + 256 if it does. corners: low x, y, z, then high; fewer than six
+ * numbers given are refused by 8, before all else. */
 uint64_t geomcore_crossing(double confusion, double angular, const double *buffer, size_t lent, uint64_t count,
                            const double *corners, size_t given);
 

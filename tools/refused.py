@@ -1,18 +1,20 @@
 #!/usr/bin/env python3
 """Reads what the prover said of each must-fail edit, once `rt ci` has tried them, and asks for two things.
 
-Every wrong answer is refused on its own account. An edit of crates/CRATE/must-fail makes one wrong answer or several, each in a function
-of its own:
+Every wrong answer is refused on its own account. An edit of crates/CRATE/must-fail makes one wrong answer or several, each in a function,
+a definition or a law of its own:
 
     wrong: NAME        what is wrong
-    proof: PLACE       where the prover must refuse it: crates/CRATE/proofs/PLACE/Proof.antt, or PLACE.antt for a law
+    proof: PLACE       where the prover must refuse it: crates/CRATE/proofs/PLACE/Proof.antt, or PLACE.antt for a law; a function whose
+                       proof is searched for has no file, and there the line counts that says what the search does not close
     file: .. old: .. new: ..
 
 A function's proof speaks of that function's code and of the contracts that it calls, so an error there is that function's own. Refused
 means that the prover has an error about a fact there: not that a part was not admitted (what it rests on was refused), and not that a name
 or a need is missing (the code has another shape).
 
-Every public function has two wrong answers at least, in it or in what carries its contract: functions of its crate that it calls.
+Every public function with an `ensures` has two wrong answers at least, in it or in what carries its contract: functions of its crate that it
+calls.
 
 The last line is 'N passed, M failed'; it counts crates, wrong answers and public functions.
 """
@@ -60,14 +62,17 @@ def refused_with(log, function):
 
 
 def public_functions(crate):
-    """The functions of a library that other crates can call."""
+    """The functions of a library that other crates can call and that have an `ensures`."""
     found = []
     root = open(f'crates/{crate}/src/lib.rt', encoding='utf-8').read()
-    for module in ['lib'] + re.findall(r'^pub mod (\w+);', root, re.M):
-        text = open(f'crates/{crate}/src/{module}.rt', encoding='utf-8').read()
+    for path in sorted(glob.glob(f'crates/{crate}/src/*.rt')):
+        module = os.path.basename(path)[:-len('.rt')]
+        text = open(path, encoding='utf-8').read()
         for item in FUNCTION.finditer(text):
-            inside = re.findall(r'^impl (\w+)', text[:item.start()], re.M)[-1:] if item.group(1) else []
-            if item.group(2):
+            handed_on = module == 'lib' or f'pub mod {module};' in root or f'pub use {module}::{item.group(3)};' in root
+            head = text[item.start():item.start() + re.search(r'\{$', text[item.start():], re.M).start()]
+            if item.group(2) and handed_on and 'ensures' in head:
+                inside = re.findall(r'^impl (\w+)', text[:item.start()], re.M)[-1:] if item.group(1) else []
                 found.append('::'.join([crate] + ([] if module == 'lib' else [module]) + inside + [item.group(3)]))
     return found
 

@@ -1,6 +1,6 @@
 #!/usr/bin/env bash
 # speed.sh [ROUNDS]: times the proved functions beside the Rust, both in release builds and on the same inputs, the least of ROUNDS rounds
-# (50 if none is said). Prints the tables of docs/SPEED.md.
+# (50 if none is said). Prints the tables of docs/SPEED.md, "The public functions beside the Rust".
 set -eu
 cd "$(dirname "$0")/.."
 tools/build_oracle.sh

@@ -1,13 +1,14 @@
 -- The line that answers a job, from the bytes of its file alone. Definitions only.
 use mathlib.Core.List.{List}
 use Prim.Native.Nat.{ℕ}
+use lib.Dec.{eqb}
 use lib.ListN.{replicate}
 use lib.Ieee.{Float}
+use Rattle.loops.specs.Loop.{pick}
 use Rattle.number.specs.Operators.{bits}
-use Rattle.refusal.specs.Refusal.{numberOf}
 use Rattle.walk.specs.declared.answer.Traced.{Traced}
 use Rattle.walk.specs.declared.answer.Traced.the-variants as traced
-use Rattle.walk.specs.Trace.{traceOf}
+use Rattle.walk.specs.Trace.{refusalOf, countOf, startOf, closingOf, traceOf}
 use Rattle.job.specs.declared.file.JobRead.{JobRead}
 use Rattle.job.specs.declared.file.JobRead.the-variants.{Whole, Refused}
 use Rattle.job.specs.File.{jobOf}
@@ -15,8 +16,7 @@ use Rattle.line.specs.Line.{traceLine, refusedLine}
 
 -- "It writes one line: `trace`, count, start index, code in decimal, or `refused` and the number."
 unfoldable pub answerLine : Traced → List ℕ
-answerLine (traced.Line count start code) = traceLine count start code
-answerLine (traced.Refused r) = refusedLine (numberOf r)
+answerLine t = pick (eqb (refusalOf t) 0) (traceLine (countOf t) (startOf t) (closingOf t)) (refusedLine (refusalOf t))
 
 -- "It lends 7,007 numbers": zeros at first
 unfoldable pub lentNumbers : List Float

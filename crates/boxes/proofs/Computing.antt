@@ -6,7 +6,7 @@ use Rattle.groups.specs.Groups.{holdsOf}
 use Rattle.tolerance.specs.Tolerance.{toleranceFit}
 use Rattle.geometry.specs.Point.{pointOf, pointFit}
 use Rattle.boxes.specs.Box.{boxesApart}
-use Rattle.boxes.specs.Trace.{pointBox, coverOf, boundsOf}
+use Rattle.boxes.specs.Bounds.{pointBox, coverOf, boundsOf}
 use Rattle.boxes.specs.Segment.{clipOf, segmentMeetsBox}
 use Rattle.boxes.specs.Crosses.{grownOf, someSegment, runCrosses, someRun, crossesOf}
 use Rattle.boxes.specs.Crossing.{sidesFit, boxFit, someUnfit, crossingOf}

@@ -18,7 +18,7 @@ use Rattle.tolerance.specs.declared.Tolerance.{Tolerance}
 use Rattle.refusal.specs.declared.Refusal.the-variants as refusal
 use Rattle.boxes.specs.declared.boxtree.Aabb.{Aabb}
 use Rattle.boxes.specs.Box.{boxesApart}
-use Rattle.boxes.specs.Trace.{boundsOf}
+use Rattle.boxes.specs.Bounds.{boundsOf}
 use Rattle.boxes.specs.Crosses.{segmentMeets, someSegment, runCrosses, runsOf, firstOf, runPoints, runAt, someRun, grownOf, crossesOf}
 use Rattle.boxes.specs.declared.crossing.Crossed.{Crossed}
 use Rattle.boxes.specs.declared.crossing.Crossed.the-variants.{Yes, No, Refused}

@@ -15,7 +15,7 @@ use Rattle.groups.proofs.Groups.{part-from}
 use Rattle.geometry.specs.declared.point.Point3D.{Point3D}
 use Rattle.geometry.specs.Point.{pointFit}
 use Rattle.boxes.specs.declared.boxtree.Aabb.{Aabb}
-use Rattle.boxes.specs.Trace.{coverOf, coverAt}
+use Rattle.boxes.specs.Bounds.{coverOf, coverAt}
 use Rattle.boxes.specs.Segment.{segmentMeetsBox}
 use Rattle.boxes.specs.Crosses.{segmentMeets, firstOf, runCrosses, runPoints, runAt}
 use Rattle.boxes.specs.Crossing.{unfitAt}

@@ -5,7 +5,7 @@ use Rattle.loops.specs.Loop.{pick}
 use Rattle.number.specs.Operators.{_<?_}
 use Rattle.boxes.specs.declared.boxtree.Aabb.{Aabb}
 
--- on one axis, of low to high and from to to: one's low side is above the other's high side
+-- two intervals on one axis, [low, high] and [from, to]: one's low end is above the other's high end
 abbrev pub apartOn : Float → Float → Float → Float → Bool
 apartOn low high from to = pick (to <? low) true (high <? from)
 

@@ -12,7 +12,7 @@ use Rattle.tolerance.specs.declared.Tolerance.{Tolerance}
 use Rattle.geometry.specs.Point.{pointFit}
 use Rattle.boxes.specs.declared.boxtree.Aabb.{Aabb}
 use Rattle.boxes.specs.Box.{boxesApart}
-use Rattle.boxes.specs.Trace.{boundsOf}
+use Rattle.boxes.specs.Bounds.{boundsOf}
 use Rattle.boxes.specs.Segment.{segmentMeetsBox}
 use Rattle.boxes.specs.Crosses.{runLength, firstOf, runPoints}
 use Rattle.boxes.specs.Crossing.{boxFit}

@@ -26,7 +26,7 @@ sidesFit b =
     (pick (b .high .y <? b .low .y) false
     (pick (b .high .z <? b .low .z) false true))
 
--- 17: "a box number not finite, above 2^20 in magnitude, or a low side above its high side"
+-- what 17 lets through: "a box number not finite, above 2^20 in magnitude, or a low side above its high side"
 unfoldable pub boxFit : Aabb → Bool
 boxFit b = pointFit (b .low) && (pointFit (b .high) && sidesFit b)
 

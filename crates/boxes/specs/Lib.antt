@@ -1,5 +1,5 @@
 pub mod Box
-pub mod Trace
+pub mod Bounds
 pub mod Segment
 pub mod Crosses
 pub mod Crossing

@@ -3,7 +3,7 @@ use mathlib.Core.Bool.{Bool, true, false}
 use lib.Ieee.{Float}
 use Rattle.loops.specs.Loop.{pick}
 use Rattle.number.specs.Operators.{bits, _⊖_, _⊘_, _<?_, _==?_}
-use Rattle.number.specs.Helpers.{minOf, maxOf}
+use Rattle.number.specs.Helpers.{one, minOf, maxOf}
 use Rattle.geometry.specs.declared.point.Point3D.{Point3D}
 use Rattle.boxes.specs.declared.boxtree.Aabb.{Aabb}
 use Rattle.boxes.specs.declared.marching.Span.{Span}
@@ -12,7 +12,7 @@ use Rattle.boxes.specs.declared.marching.Clipped.the-variants.{Meets, Mi
 
 -- lo = 0.0 and hi = 1.0: the whole segment
 abbrev pub whole : Span
-whole = record { lo = bits 0; hi = bits 0x3ff0_0000_0000_0000 }
+whole = record { lo = bits 0; hi = one }
 
 -- `if lo > hi { return false; }`
 abbrev pub spanFrom : Float → Float → Clipped

@@ -5,7 +5,7 @@ ghost use mathlib.Core.Path.{_≡_};
 ghost use Prim.Native.Nat.{_*_, _≤_, _<_};
 ghost use lib.ListN.{length};
 ghost use Rattle.groups.specs.Groups.{width};
-ghost use Rattle.boxes.specs.Trace.{pointBox, coverOf, boundsOf};
+ghost use Rattle.boxes.specs.Bounds.{pointBox, coverOf, boundsOf};
 
 // The box that is one point.
 fn point_box(p: Point3D) -> Aabb

@@ -9,7 +9,7 @@ use Rattle.refusal.specs.Refusal.{numberOf}
 use Rattle.patch.specs.declared.patch.Patch.{Patch}
 use Rattle.patch.specs.declared.point.Located.{Located}
 use Rattle.patch.specs.declared.point.Located.the-variants as located
-use Rattle.patch.specs.Located.{locatedOf}
+use Rattle.patch.specs.Located.{refusalOf, locatedOf}
 use Rattle.job.specs.declared.file.SurfaceRead.{SurfaceRead}
 use Rattle.job.specs.declared.file.SurfaceRead.the-variants as surface
 use Rattle.job.specs.File.{surfaceFile}
@@ -19,10 +19,14 @@ use Rattle.capi.specs.Answer.{Answer, answered}
 unfoldable pub put3 : List Float → Float → Float → Float → List Float
 put3 t x y z = set (set (set t 0 x) 1 y) 2 z
 
--- the refusal's number, 0 if none (include/geomcore.h); a refusal writes nothing
+-- a point's coordinates at the front; a refusal writes nothing
+abbrev pub located3 : Located → List Float → List Float
+located3 (located.Refused r) t = t
+located3 (located.At p) t = put3 t (p .x) (p .y) (p .z)
+
+-- the refusal's number, 0 if none (include/geomcore.h)
 abbrev pub locatedAnswer : Located → List Float → Answer
-locatedAnswer (located.Refused r) t = answered (numberOf r) t
-locatedAnswer (located.At p) t = answered 0 (put3 t (p .x) (p .y) (p .z))
+locatedAnswer l t = answered (refusalOf l) (located3 l t)
 
 -- fewer than 3 numbers lent answer 8
 unfoldable pub pointOn : Patch → Float → Float → List Float → Answer

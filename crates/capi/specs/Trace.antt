@@ -1,20 +1,22 @@
 -- The trace's word and the lent numbers after it. Definitions only.
 use mathlib.Core.List.{List}
 use Prim.Native.Nat.{ℕ}
+use lib.Dec.{eqb}
 use lib.Ieee.{Float}
+use Rattle.loops.specs.Loop.{pick}
 use Rattle.refusal.specs.Refusal.{numberOf}
 use Rattle.walk.specs.declared.answer.Traced.{Traced}
-use Rattle.walk.specs.declared.answer.Traced.the-variants as traced
-use Rattle.walk.specs.Trace.{Outcome, traceOf}
+use Rattle.walk.specs.Trace.{Outcome, refusalOf, countOf, startOf, closingOf, traceOf}
 use Rattle.job.specs.declared.file.JobRead.{JobRead}
 use Rattle.job.specs.declared.file.JobRead.the-variants.{Whole, Refused}
 use Rattle.job.specs.File.{jobOf}
 use Rattle.capi.specs.Answer.{Answer, answered, plus, shifted}
 
--- the refusal's number + 2^8 times the closing code + 2^16 times the start's index + 2^32 times the count (include/geomcore.h)
+-- the refusal's number, or 2^8 times the closing code + 2^16 times the start's index + 2^32 times the count (include/geomcore.h)
 unfoldable pub tracedWord : Traced → ℕ
-tracedWord (traced.Line count start code) = plus (plus (shifted code 8) (shifted start 16)) (shifted count 32)
-tracedWord (traced.Refused r) = numberOf r
+tracedWord t =
+    pick (eqb (refusalOf t) 0) (plus (plus (shifted (closingOf t) 8) (shifted (startOf t) 16)) (shifted (countOf t) 32))
+    (refusalOf t)
 
 -- the answer as a word, and the buffer
 abbrev pub outcomeAnswer : Outcome → Answer

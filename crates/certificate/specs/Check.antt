@@ -33,7 +33,7 @@ abbrev pub refusalOf : Checked → ℕ
 refusalOf Passed = 0
 refusalOf (Refused r) = number.numberOf r
 
--- the index of the point that 13 to 16 add
+-- the index of the point that 13 to 16 add; 0 for all others
 abbrev pub indexOf : Checked → ℕ
 indexOf Passed = 0
 indexOf (Refused r) = number.indexOf r
@@ -72,7 +72,7 @@ pointAnswer a b confusion p x i =
     (Refused (refusal.NotOwnPoint i)))
     (Refused (refusal.OutsideWindow i))
 
--- 16: "computed chord from the point before not at most 0.2, the closing chord not being tested"
+-- what 16 lets through: "computed chord from the point before not at most 0.2, the closing chord not being tested"
 unfoldable pub chordFits : List Float → ℕ → ℕ → ℕ → Bool
 chordFits l count closing i =
     pick (eqb i 0) true

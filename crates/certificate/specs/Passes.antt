@@ -28,8 +28,8 @@ parametersAt l i = record { u1 = rowAt l i .u1; v1 = rowAt l i .v1; u2 = rowAt l
 abbrev pub closingChord : ℕ → ℕ → ℕ → Bool
 closingChord count closing i = pick (eqb closing 1) (eqb i (count - 1)) (pick (eqb closing 2) (eqb i 1) false)
 
--- point i is A's own for the parameters beside it (equal as values of the logic, which has one NaN and two zeros: equal in bits), inside the
--- windows that apply, and its computed gap to B is at most the confusion
+-- the parameters beside point i are inside the windows that apply; A's point worked out afresh at them is finite and is point i (equal as values
+-- of the logic, which has one NaN and two zeros: equal in bits); its computed gap to B's is at most the confusion
 pub record PointPasses (a b : Patch) (tol : Tolerance) (l : List Float) (i : ℕ) : Type 0 where
   pub inside : T (insideOf a b (parametersAt l i))
   pub finite-x : T (finite (pointA a (parametersAt l i) .x))
@@ -60,6 +60,7 @@ pub record Passes (a b : Patch) (tol : Tolerance) (l : List Float) (count start 
   pub among : start < count
   -- closed as it claims
   pub closed : ClosedAs l count start closing
+  -- every point passes
   pub points : (i : ℕ) → i < count → PointPasses a b tol l i
-  -- no computed chord but the closing one is above 0.2
+  -- every computed chord but the closing one is at most 0.2
   pub chords : (i : ℕ) → 0 < i → i < count → closingChord count closing i ≡ false → T (distanceOf (pointAt l i) (pointAt l (i - 1)) ≤? longestChord)

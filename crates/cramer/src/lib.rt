@@ -4,11 +4,13 @@
 ghost use mathlib.Core.Path.{_≡_};
 ghost use Rattle.cramer.specs.Cramer.{givesUp, determinantOf, scale2Of, cramerOf, solve2Of};
 
+// The two unknowns.
 pub struct Solution2 {
     pub x0: f64,
     pub x1: f64,
 }
 
+// The solution, or that the solver gave up.
 pub enum Solved2 {
     Solution(Solution2),
     Singular,
@@ -21,6 +23,7 @@ pub fn gives_up(pivot: f64, tol: f64, scale: f64) -> bool
     number::abs(pivot) <= tol * number::max(scale, number::MIN_POSITIVE)
 }
 
+// a d - b c.
 fn determinant(a: [[f64; 2]; 2]) -> f64
     ensures { λ r. ⌜ r ≡ determinantOf a ⌝ }
 {

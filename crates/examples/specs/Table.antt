@@ -8,7 +8,7 @@ use lib.IntN.{negsuc}
 use lib.ListN.{replicate}
 use lib.Ieee.{Float, fin, binary64, toBits}
 use Rattle.number.specs.Operators.{bits}
-use Rattle.number.specs.Helpers.{one, half}
+use Rattle.number.specs.Helpers.{one, half, two}
 use Rattle.groups.specs.Row.{zero}
 use Rattle.tolerance.specs.declared.Tolerance.{Tolerance}
 use Rattle.tolerance.specs.Tolerance.{defaultTolerance}
@@ -33,41 +33,47 @@ use Rattle.cramer.specs.declared.Solved2.the-variants as solved2
 use Rattle.solve.specs.declared.Solved3.the-variants as solved3
 use Rattle.walk.specs.Trace.{Outcome, traceOf, refusalOf}
 
--- the other numbers of the rows
+-- ---- the other numbers of the rows
+
+-- -1
 abbrev pub -one : Float
 -one = bits 0xbff0_0000_0000_0000
 
-abbrev pub two : Float
-two = bits 0x4000_0000_0000_0000
-
+-- -2
 abbrev pub -two : Float
 -two = bits 0xc000_0000_0000_0000
 
+-- 3
 abbrev pub three : Float
 three = bits 0x4008_0000_0000_0000
 
+-- 4
 abbrev pub four : Float
 four = bits 0x4010_0000_0000_0000
 
+-- 5
 abbrev pub five : Float
 five = bits 0x4014_0000_0000_0000
 
--- 1.5 and -1.5, 1e-12 and 4e-12
+-- 1.5
 abbrev pub threeHalves : Float
 threeHalves = bits 0x3ff8_0000_0000_0000
 
+-- -1.5
 abbrev pub -threeHalves : Float
 -threeHalves = bits 0xbff8_0000_0000_0000
 
+-- 1e-12
 abbrev pub 1e-12 : Float
 1e-12 = bits 0x3d71_9799_812d_ea11
 
+-- 4e-12
 abbrev pub 4e-12 : Float
 4e-12 = bits 0x3d91_9799_812d_ea11
 
 -- 2 ^ -e, as the logic writes it, for an e above 0
-abbrev pub over2 : ℕ → Float
-over2 e = fin false 1 (negsuc (e - 1))
+abbrev pub twoToMinus : ℕ → Float
+twoToMinus e = fin false 1 (negsuc (e - 1))
 
 -- the matrix with this diagonal
 abbrev pub diagonal : Float → Float → Float → List (List Float)
@@ -103,7 +109,7 @@ confusion20 t = record { confusion = bits 0x3eb0_0000_0000_0000; angular = 1e-12
 abbrev pub boxAt : Float → Float → Float → Aabb
 boxAt x y z = record { low = record { x = x; y = y; z = z }; high = record { x = x; y = y; z = z } }
 
--- the frame with these axes whose origin is 0 moved by a vector
+-- the frame with axes (1,0,0), (0,1,0), (0,0,1) whose origin is 0 moved by a vector
 abbrev pub movedFrame : Vector3D → Frame3D
 movedFrame by = record {
   origin = addVectorOf (pointOf zero zero zero) by;
@@ -142,7 +148,7 @@ pub record Table : Type 0 where
   -- "Square root of 2: bits hexadecimal 3ff6a09e667f3bcd."
   pub row3 : toBits binary64 (sqrtOf two) ≡ 0x3ff6a09e667f3bcd
   -- "Square root of 2^-1074: 2^-537."
-  pub row4 : sqrtOf (over2 1074) ≡ over2 537
+  pub row4 : sqrtOf (twoToMinus 1074) ≡ twoToMinus 537
   -- "`solve_2x2` of rows (2,0), (0,4), right side (2,4): (1,1). Rows (1,1), (1,1): gives up." ("tol is 1e-12 throughout")
   pub row5 :
       (solve2Of ((two ∷ zero ∷ []) ∷ (zero ∷ four ∷ []) ∷ []) (two ∷ four ∷ []) 1e-12 ≡ solved2.Solution (record { x0 = one; x1 = one }))

@@ -15,7 +15,7 @@ use lib.Ieee.Exact.{odd-sign}
 use lib.Ieee.Scale.{finite}
 use Rattle.loops.specs.Loop.{pick}
 use Rattle.number.specs.Operators.{_⊕_, _⊖_, _⊗_, bits}
-use Rattle.number.specs.Helpers.{absOf}
+use Rattle.number.specs.Helpers.{one, half, absOf}
 use Rattle.number.proofs.Values.{bits-is}
 use Rattle.fdlibm.specs.declared.reduction.Reduction.{Reduction}
 use Rattle.fdlibm.specs.declared.reduction.Difference.{Difference}
@@ -24,7 +24,7 @@ use Rattle.fdlibm.specs.declared.reduction.Reduced.the-variants.{To, Bey
 use Rattle.fdlibm.specs.Words.{ixOf, signOf, exponentOf}
 use Rattle.fdlibm.specs.Kernel.{sinSeries, cosSeries, kernelSin, kernelCos, qxOf}
 use Rattle.fdlibm.specs.Reduction.{npio2hw, aboveOf, belowOf, firstOf, nextOf, carefulOf, settledOf, mediumOf, backOf, remPio2}
-use Rattle.fdlibm.specs.Constants.{one, half, S1, invpio2, pio2-2, pio2-2t, pio2-3, pio2-3t}
+use Rattle.fdlibm.specs.Constants.{S1, invpio2, pio2-2, pio2-2t, pio2-3, pio2-3t}
 use Rattle.fdlibm.specs.Sine.{sinAt, cosAt, sinOf, cosOf}
 use Rattle.fdlibm.proofs.Fields.{at, fields, normal}
 use Rattle.fdlibm.proofs.Truncation.{cut-most}

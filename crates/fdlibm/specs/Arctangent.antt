@@ -6,9 +6,9 @@ use lib.Dec.{ltb, leb, eqb}
 use lib.Ieee.{Float, binary64, toBits, neg, isNan}
 use Rattle.loops.specs.Loop.{pick}
 use Rattle.number.specs.Operators.{_⊕_, _⊖_, _⊗_, _⊘_, bits}
-use Rattle.number.specs.Helpers.{absOf}
+use Rattle.number.specs.Helpers.{one, half, two, absOf}
 use Rattle.fdlibm.specs.Words.{ixOf, signOf, magnitudeOf}
-use Rattle.fdlibm.specs.Constants.{one, half, two, three-halves, atanhi0, atanhi1, atanhi2, atanhi3, atanlo0, atanlo1, atanlo2, atanlo3, aT0, aT1, aT2, aT3, aT4, aT5, aT6, aT7, aT8, aT9, aT10, tiny, pi-o-4, pi-o-2, pi, pi-lo, three, minus-three, minus-one}
+use Rattle.fdlibm.specs.Constants.{three-halves, atanhi0, atanhi1, atanhi2, atanhi3, atanlo0, atanlo1, atanlo2, atanlo3, aT0, aT1, aT2, aT3, aT4, aT5, aT6, aT7, aT8, aT9, aT10, tiny, pi-o-4, pi-o-2, pi, pi-lo, three, minus-three, minus-one}
 
 -- s1 = z*(aT[0]+w*(aT[2]+w*(aT[4]+w*(aT[6]+w*(aT[8]+w*aT[10]))))), for w = z*z
 abbrev pub evens : Float → Float → Float

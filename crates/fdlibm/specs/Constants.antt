@@ -1,17 +1,8 @@
--- The constants of fdlibm 5.3, by the bits that its comments give. Definitions only.
+-- The constants of fdlibm 5.3, by the bits that its comments give; `tiny` and the literals by the bits of their decimals. Definitions only.
 use lib.Ieee.{Float}
 use Rattle.number.specs.Operators.{bits}
 
--- one, half; two and 1.5 of s_atan.c
-abbrev pub one : Float
-one = bits 0x3ff0000000000000
-
-abbrev pub half : Float
-half = bits 0x3fe0000000000000
-
-abbrev pub two : Float
-two = bits 0x4000000000000000
-
+-- 1.5 of s_atan.c
 abbrev pub three-halves : Float
 three-halves = bits 0x3ff8000000000000
 

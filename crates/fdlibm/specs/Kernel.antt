@@ -6,7 +6,8 @@ use lib.Ieee.{Float}
 use Rattle.loops.specs.Loop.{pick}
 use Rattle.number.specs.Operators.{_⊕_, _⊖_, _⊗_, bits}
 use Rattle.fdlibm.specs.Words.{ixOf}
-use Rattle.fdlibm.specs.Constants.{one, half, S1, S2, S3, S4, S5, S6, C1, C2, C3, C4, C5, C6}
+use Rattle.number.specs.Helpers.{one, half}
+use Rattle.fdlibm.specs.Constants.{S1, S2, S3, S4, S5, S6, C1, C2, C3, C4, C5, C6}
 
 -- r = S2 + z*(S3 + z*(S4 + z*(S5 + z*S6)))
 abbrev pub sinSeries : Float → Float

@@ -8,13 +8,13 @@ use lib.ListN.{getD}
 use lib.Ieee.{Float, binary64, neg, ofInt, toUnsigned}
 use Rattle.loops.specs.Loop.{pick}
 use Rattle.number.specs.Operators.{_⊕_, _⊖_, _⊗_, bits}
-use Rattle.number.specs.Helpers.{absOf}
+use Rattle.number.specs.Helpers.{half, absOf}
 use Rattle.fdlibm.specs.declared.reduction.Reduction.{Reduction}
 use Rattle.fdlibm.specs.declared.reduction.Difference.{Difference}
 use Rattle.fdlibm.specs.declared.reduction.Reduced.{Reduced}
 use Rattle.fdlibm.specs.declared.reduction.Reduced.the-variants.{To, Beyond}
 use Rattle.fdlibm.specs.Words.{ixOf, signOf, exponentOf}
-use Rattle.fdlibm.specs.Constants.{half, invpio2, pio2-1, pio2-1t, pio2-2, pio2-2t, pio2-3, pio2-3t}
+use Rattle.fdlibm.specs.Constants.{invpio2, pio2-1, pio2-1t, pio2-2, pio2-2t, pio2-3, pio2-3t}
 
 -- npio2_hw, the high words of n pi/2 for n = 1 to 32, after a 0 for n = 0, so that n is the index
 abbrev pub npio2hw : List ℕ

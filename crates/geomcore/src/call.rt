@@ -7,13 +7,11 @@ use patch::Patch;
 use tolerance::Tolerance;
 use walk::Traced;
 ghost use mathlib.Core.Path.{_≡_};
-ghost use Prim.Native.Nat.{ℕ};
 ghost use lib.Dec.{T};
 ghost use lib.Ieee.{binary64, fits};
 ghost use Rattle.patch.specs.Located.{locatedOf};
 ghost use Rattle.boxes.specs.Crossing.{crossingOf};
-ghost use Rattle.walk.specs.Trace.{traceOf};
-ghost use Rattle.walk.specs.declared.answer.Traced.the-variants.{Line};
+ghost use Rattle.walk.specs.Trace.{refusalOf, countOf, startOf, closingOf, traceOf};
 ghost use Rattle.certificate.specs.declared.check.Checked.the-variants.{Passed};
 ghost use Rattle.certificate.specs.Check.{checkOf};
 ghost use Rattle.certificate.specs.Passes.{Passes};
@@ -51,7 +49,7 @@ pub fn trace(
     cap: usize,
     buffer: &mut [f64],
 ) -> Traced
-    ensures { λ r. ⌜ (r ≡ traceOf a b tol guess cap (now (buffer .entry)) .answer) × ((now (buffer .exit) ≡ traceOf a b tol guess cap (now (buffer .entry)) .buffer) × ((count start closing : ℕ) → r ≡ Line count start closing → Passes a b tol (now (buffer .exit)) count start closing)) ⌝ }
+    ensures { λ r. ⌜ (r ≡ traceOf a b tol guess cap (now (buffer .entry)) .answer) × ((now (buffer .exit) ≡ traceOf a b tol guess cap (now (buffer .entry)) .buffer) × (refusalOf r ≡ 0 → Passes a b tol (now (buffer .exit)) (countOf r) (startOf r) (closingOf r))) ⌝ }
 {
     let confusion = tol.confusion;
     let _ = known(confusion);

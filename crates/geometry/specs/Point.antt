@@ -18,7 +18,7 @@ pointOf x y z = record { x = x; y = y; z = z }
 unfoldable pub distanceOf : Point3D → Point3D → Float
 distanceOf p q = sqrtOf ((q .x ⊖ p .x) ⊗ (q .x ⊖ p .x) ⊕ (q .y ⊖ p .y) ⊗ (q .y ⊖ p .y) ⊕ (q .z ⊖ p .z) ⊗ (q .z ⊖ p .z))
 
--- 0.2, the longest chord that the walk keeps and that the check passes (16)
+-- 0.2, the longest chord that the walk keeps and, but for the closing chord, the check passes (16)
 abbrev pub longestChord : Float
 longestChord = bits 0x3FC9_9999_9999_999A
 

@@ -11,7 +11,7 @@ use lib.Ieee.Scale.{finite}
 use Rattle.loops.specs.Loop.{pick, Flow, on, out}
 use Rattle.loops.proofs.Loop.{Kept, searched-keeps}
 use Rattle.number.specs.Operators.{_⊗_, _<?_, _≤?_}
-use Rattle.number.specs.Helpers.{one, half, absOf}
+use Rattle.number.specs.Helpers.{one, half, tenth, absOf}
 use Rattle.number.specs.Units.{mag, neg?}
 use Rattle.number.proofs.Values.{whole}
 use Rattle.number.proofs.Order.{le-self, le-numbers, le-through}
@@ -39,8 +39,8 @@ use Rattle.meeting.specs.declared.newton.Round.the-variants as round
 use Rattle.meeting.specs.Parameters.{parameterOf, withParameter}
 use Rattle.patch.specs.Located.{pointA, pointB}
 use Rattle.meeting.specs.Step.{residualOf, newtonStep, allShifted, shiftedOf}
-use Rattle.meeting.specs.Newton.{tenth, nearOf, trialStep, noTrial, trialsOf, lastTest, afterTrials, afterStep, roundOf, goingOn, roundStep, newtonOf, meetOf, meetInPlaneOf, landOf}
-use Rattle.good.specs.Good.{Good, windowAt}
+use Rattle.meeting.specs.Newton.{nearOf, trialStep, noTrial, trialsOf, lastTest, afterTrials, afterSolve, roundOf, goingOn, roundStep, newtonOf, meetOf, meetInPlaneOf, landOf}
+use Rattle.good.specs.Good.{Good, windowOf}
 
 -- ---- a state of Newton's method holds the difference of the two points at its parameters, and what every move of them keeps
 
@@ -107,7 +107,7 @@ module _ (a b : Patch) (target : Target) (confusion : Float) (tight : T (tenth �
   after-trials s o (trial.Better t) h = h
   after-trials s o trial.Nothing h = last-good s o
 
-  after-step : (s : Residual) → Own s → (r : Step) → KeptOwn (goingOn (afterStep a b target confusion s r))
+  after-step : (s : Residual) → Own s → (r : Step) → KeptOwn (goingOn (afterSolve a b target confusion s r))
   unfolding KeptOwn
   after-step s o (step.By d) = after-trials s o (trialsOf a b target s d) (trials-own s d o)
   after-step s o step.Singular = tt
@@ -116,7 +116,7 @@ module _ (a b : Patch) (target : Target) (confusion : Float) (tight : T (tenth �
   unfolding roundOf KeptOwn
   round-good i s o = go (nearOf a b s (tenth ⊗ confusion)) (λ t. near-good s (tenth ⊗ confusion) o tight t)
     where
-      go : (near : Bool) → (T near → Good a b confusion (s .x) × H (s .x)) → KeptOwn (goingOn (pick near (round.End (At (s .x))) (afterStep a b target confusion s (newtonStep a b target s))))
+      go : (near : Bool) → (T near → Good a b confusion (s .x) × H (s .x)) → KeptOwn (goingOn (pick near (round.End (At (s .x))) (afterSolve a b target confusion s (newtonStep a b target s))))
       go true g = g tt
       go false g = after-step s o (newtonStep a b target s)
 
@@ -146,7 +146,7 @@ with-parameter x k v = go (eqb k 0) (eqb k 1) (eqb k 2)
     go false false true = refl
     go false false false = refl
 
-bounded-parameter : (a b : Patch) (x : Parameters) (k : ℕ) → parameterOf (withinBounds a b x) k ≡ boundedOf (windowAt a b k) (parameterOf x k)
+bounded-parameter : (a b : Patch) (x : Parameters) (k : ℕ) → parameterOf (withinBounds a b x) k ≡ boundedOf (windowOf a b k) (parameterOf x k)
 unfolding parameterOf withinBounds
 bounded-parameter a b x k = go (eqb k 0) (eqb k 1) (eqb k 2)
   where
@@ -192,11 +192,11 @@ module _ (a b : Patch) (tol : Tolerance) (fc : T (fits binary64 (tol .confusion)
   unfolding landOf
   land-good x y pin value e = newton-has a b (Pin pin) c tight self (λ x. T true) (λ x d scale h. tt) (withParameter (withinBounds a b x) pin value) y tt e .0
 
-  pub land-pinned : (x y : Parameters) (pin : ℕ) (value : Float) → boundedOf (windowAt a b pin) value ≡ value → landOf a b x pin value tol ≡ At y → parameterOf y pin ≡ value
+  pub land-pinned : (x y : Parameters) (pin : ℕ) (value : Float) → boundedOf (windowOf a b pin) value ≡ value → landOf a b x pin value tol ≡ At y → parameterOf y pin ≡ value
   unfolding landOf shiftedOf
   land-pinned x y pin value w e =
       newton-has a b (Pin pin) c tight self (λ (z : Parameters). parameterOf z pin ≡ value)
-      (λ z d scale h. bounded-parameter a b (withParameter (allShifted z d scale) pin (parameterOf z pin)) pin ∙ ap (boundedOf (windowAt a b pin)) (with-parameter (allShifted z d scale) pin (parameterOf z pin) ∙ h) ∙ w)
+      (λ z d scale h. bounded-parameter a b (withParameter (allShifted z d scale) pin (parameterOf z pin)) pin ∙ ap (boundedOf (windowOf a b pin)) (with-parameter (allShifted z d scale) pin (parameterOf z pin) ∙ h) ∙ w)
       (withParameter (withinBounds a b x) pin value) y (with-parameter (withinBounds a b x) pin value) e .1
 
   -- And at good parameters all six coordinates are finite.

@@ -1,4 +1,4 @@
--- What the walk keeps of every point. Definitions only.
+-- What holds of every point that the walk keeps. Definitions only.
 use Prim.Native.Nat.{ℕ}
 use lib.Dec.{T}
 use lib.Ieee.{Float}
@@ -16,6 +16,6 @@ pub record Good (a b : Patch) (confusion : Float) (x : Parameters) : Type 0 wher
   pub inside : T (insideOf a b x)
   pub gap : T (distanceOf (pointA a x) (pointB b x) ≤? confusion)
 
--- the window of the k-th of the four parameters
-abbrev pub windowAt : Patch → Patch → ℕ → Window
-windowAt a b k = ofFour k (a .u) (a .v) (b .u) (b .v)
+-- the window of the k-th of the four parameters; an index above 3 counts as 3
+abbrev pub windowOf : Patch → Patch → ℕ → Window
+windowOf a b k = ofFour k (a .u) (a .v) (b .u) (b .v)

@@ -13,6 +13,6 @@ width = 7
 abbrev pub fromGroup : {A : Type 0} → ℕ → ℕ → List A → List A
 fromGroup w i l = drop (w * i) l
 
--- not "fewer than 7 for each point claimed"
+-- not "fewer than 7(2n+1) numbers lent", nor "fewer than 7 for each point claimed"
 unfoldable pub holdsOf : {A : Type 0} → ℕ → List A → ℕ → Bool
 holdsOf w l count = leb (w * count) (length l)

@@ -26,7 +26,7 @@ rowFrom l at = record {
   v2 = getD l (at + 6) nan;
 }
 
--- the numbers of point i, where the list has them
+-- the numbers of point i, a NaN for each that the list has not
 abbrev pub rowAt : List Float → ℕ → Row
 rowAt l i = rowFrom l (width * i)
 

@@ -28,8 +28,8 @@ use Rattle.job.specs.Layout.{versionPlace, surfaceAPlace, surfaceBPlace,
 -- ---- "12 frame numbers (origin, x, y, z direction)"
 
 -- the origin: three numbers
-unfoldable pub pointAt : List ℕ → ℕ → Point3D
-pointAt s at = record { x = numberAt s at; y = numberAt s (at + 8); z = numberAt s (at + 16) }
+unfoldable pub originAt : List ℕ → ℕ → Point3D
+originAt s at = record { x = numberAt s at; y = numberAt s (at + 8); z = numberAt s (at + 16) }
 
 -- a direction: three numbers
 unfoldable pub directionAt : List ℕ → ℕ → Vector3D
@@ -37,7 +37,7 @@ directionAt s at = record { x = numberAt s at; y = numberAt s (at + 8); z = numb
 
 -- the frame: "origin, x, y, z direction"
 unfoldable pub frameAt : List ℕ → ℕ → Frame3D
-frameAt s at = record { origin = pointAt s at; x = directionAt s (at + 24); y = directionAt s (at + 48); z = directionAt s (at + 72) }
+frameAt s at = record { origin = originAt s at; x = directionAt s (at + 24); y = directionAt s (at + 48); z = directionAt s (at + 72) }
 
 -- ---- "a kind byte (0 plane, 1 cylinder, 2 cone, 3 sphere, 4 torus)"; "two sizes (the cone's are radius, semi-angle; the torus's major, minor)"; "Used sizes come first"
 unfoldable pub surfaceOf : ℕ → Frame3D → Float → Float → Surface
@@ -50,7 +50,7 @@ surfaceOf kind f first second =
 
 -- "a mark byte (1 for u, 2 for v, added)"
 unfoldable pub marked : ℕ → ℕ → Bool
-marked marks one = pick (eqb marks one) true (eqb marks 3)
+marked marks mark = pick (eqb marks mark) true (eqb marks 3)
 
 -- "window low and high"
 unfoldable pub windowAt : List ℕ → ℕ → Bool → Window

@@ -11,7 +11,7 @@ use vector::Vector3D;
 ghost use mathlib.Core.Path.{_≡_};
 ghost use Prim.Native.Nat.{_+_, _≤_};
 ghost use lib.ListN.{length};
-ghost use Rattle.job.specs.File.{pointAt, directionAt, frameAt, surfaceOf, marked, windowAt, patchAt, unusedClear, surfaceAt, surfaceFile, guessAt, jobAt, jobOf};
+ghost use Rattle.job.specs.File.{originAt, directionAt, frameAt, surfaceOf, marked, windowAt, patchAt, unusedClear, surfaceAt, surfaceFile, guessAt, jobAt, jobOf};
 
 // What a job file asks for: the line where A and B meet. The parametric tolerance isn't read.
 pub struct Job {
@@ -36,7 +36,7 @@ pub enum JobRead {
 
 fn point(bytes: &[u8], at: usize) -> Point3D
     requires { ⌜ at + 24 ≤ length (now bytes) ⌝ }
-    ensures { λ r. ⌜ r ≡ pointAt (now (bytes .entry)) at ⌝ }
+    ensures { λ r. ⌜ r ≡ originAt (now (bytes .entry)) at ⌝ }
 {
     let x = wire::number(bytes, at);
     let y = wire::number(bytes, at + 8);

@@ -2,7 +2,7 @@
 use mathlib.Core.Bool.{Bool, true, false}
 use Prim.Native.Nat.{ℕ, zero, suc, _+_, _-_}
 
--- a choice by a test: `if b { x } else { y }`
+-- a choice by a test: `if b { x } else { y }`; by clauses of its own, so that it computes as a definition does
 abbrev pub pick : {A : Type 0} → Bool → A → A → A
 pick true x y = x
 pick false x y = y

@@ -20,14 +20,14 @@ lesserOf (first.At j b f) k bound fraction = pick (fraction <? f) (first.At k bo
 abbrev pub fractionOf : Float → Float → Float → Float
 fractionOf bound x y = (bound ⊖ x) ⊘ (y ⊖ x)
 
--- parameter k moves from x to y: beyond the high end, beyond the low end, or in the window; a marked one has none
+-- parameter k moves from x to y: beyond the high end, beyond the low end, or neither (a NaN too); a marked one has no window that applies
 unfoldable pub considerOf : First → Window → ℕ → Float → Float → First
 considerOf so w k x y =
     pick (w .turn) so
     (pick (w .high <? y) (lesserOf so k (w .high) (fractionOf (w .high) x y))
     (pick (y <? w .low) (lesserOf so k (w .low) (fractionOf (w .low) x y)) so))
 
--- u1, v1, u2, v2 in turn
+-- the first exit of the four, u1, v1, u2, v2 in turn
 unfoldable pub firstOf : Patch → Patch → Parameters → Parameters → First
 firstOf a b x y =
     considerOf (considerOf (considerOf (considerOf first.Nothing (a .u) 0 (x .u1) (y .u1)) (a .v) 1 (x .v1) (y .v1)) (b .u) 2 (x .u2) (y .u2)) (b .v) 3 (x .v2) (y .v2)

@@ -39,13 +39,13 @@ movedBy s d =
     solve2Of ((dotOf (s .u) (s .u) ∷ dotOf (s .u) (s .v) ∷ []) ∷ (dotOf (s .u) (s .v) ∷ dotOf (s .v) (s .v) ∷ []) ∷ []) (dotOf (s .u) d ∷ dotOf (s .v) d ∷ []) solverTol
 
 -- nothing moves where the solver gives up
-abbrev pub orNothing : Solved2 → Solution2
-orNothing (Solution x) = x
-orNothing Singular = record { x0 = bits 0; x1 = bits 0 }
+abbrev pub orZero : Solved2 → Solution2
+orZero (Solution x) = x
+orZero Singular = record { x0 = bits 0; x1 = bits 0 }
 
 -- how far u and v of one surface move
 unfoldable pub shiftOf : Patch → Float → Float → Vector3D → Solution2
-shiftOf p u v d = orNothing (movedBy (evalD1 (p .surface) u v) d)
+shiftOf p u v d = orZero (movedBy (evalD1 (p .surface) u v) d)
 
 -- `predict`: the parameters moved to first order by the displacement d on both surfaces
 unfoldable pub predictOf : Patch → Patch → Parameters → Vector3D → Parameters

@@ -17,7 +17,7 @@ enum First {
     At(usize, f64, f64),
 }
 
-// The lesser of the exit so far and another; the one so far on a tie, and also where its fraction is a NaN.
+// The lesser of the exit so far and another; the one so far on a tie, and also where either fraction is a NaN.
 fn lesser(first: First, k: usize, bound: f64, fraction: f64) -> First
     ensures { λ r. ⌜ r ≡ lesserOf first k bound fraction ⌝ }
 {
@@ -33,7 +33,7 @@ fn lesser(first: First, k: usize, bound: f64, fraction: f64) -> First
     }
 }
 
-// Parameter k moves from x to y.
+// The first exit so far, with parameter k taken into account, which moves from x to y.
 fn consider(first: First, window: Window, k: usize, x: f64, y: f64) -> First
     ensures { λ r. ⌜ r ≡ considerOf first window k x y ⌝ }
 {
@@ -51,6 +51,7 @@ fn consider(first: First, window: Window, k: usize, x: f64, y: f64) -> First
     first
 }
 
+// The first exit of the four parameters in turn.
 fn first_exit(a: Patch, b: Patch, x: Parameters, y: Parameters) -> First
     ensures { λ r. ⌜ r ≡ firstOf a b x y ⌝ }
 {

@@ -12,8 +12,9 @@ ghost use lib.Dec.{T};
 ghost use Rattle.number.specs.Operators.{bits, _⊗_, _≤?_};
 ghost use Rattle.number.specs.Helpers.{minPositive, maxOf};
 ghost use Rattle.sqrt.specs.Sqrt.{sqrtOf};
-ghost use Rattle.marching.specs.Tangent.{normalOf, unitCross, tangentOf, movedBy, orNothing, predictOf};
+ghost use Rattle.marching.specs.Tangent.{normalOf, unitCross, tangentOf, movedBy, orZero, predictOf};
 
+// The unit tangent, or that the surfaces are too nearly parallel for one.
 pub enum Direction {
     Along(Vector3D),
     Missing,
@@ -84,7 +85,7 @@ pub fn tangent(a: Patch, b: Patch, x: Parameters, tol: Tolerance) -> Direction
 // How far u and v move, to first order, by the displacement d; not at all where the tangent plane degenerates. It takes the derivatives
 // and not the patch, which would be copied at each call.
 fn shift(s: Derivatives, d: Vector3D) -> Solution2
-    ensures { λ r. ⌜ r ≡ orNothing (movedBy s d) ⌝ }
+    ensures { λ r. ⌜ r ≡ orZero (movedBy s d) ⌝ }
 {
     let su = s.u;
     let sv = s.v;

@@ -3,8 +3,8 @@ use mathlib.Core.Bool.{Bool, _&&_}
 use Prim.Native.Nat.{ℕ}
 use lib.Ieee.{Float}
 use Rattle.loops.specs.Loop.{pick, Flow, on, out, searched}
-use Rattle.number.specs.Operators.{bits, _⊗_, _<?_, _≤?_}
-use Rattle.number.specs.Helpers.{one, half, absOf}
+use Rattle.number.specs.Operators.{_⊗_, _<?_, _≤?_}
+use Rattle.number.specs.Helpers.{one, half, tenth, absOf}
 use Rattle.vector.specs.declared.Vector3D.{Vector3D}
 use Rattle.geometry.specs.declared.point.Point3D.{Point3D}
 use Rattle.tolerance.specs.declared.Tolerance.{Tolerance}
@@ -30,10 +30,6 @@ use Rattle.meeting.specs.Step.{residualOf, newtonStep, shiftedOf}
 unfoldable pub nearOf : Patch → Patch → Residual → Float → Bool
 nearOf a b s bound = magnitudeOf (s .f) ≤? bound && (absOf (s .r) ≤? bound && insideOf a b (s .x))
 
--- "a tenth of confusion": the Rust's `0.1`
-abbrev pub tenth : Float
-tenth = bits 0x3FB9_9999_9999_999A
-
 -- ---- "up to 12 trials with halved scale, the first with strictly smaller merit taken"
 
 -- "the first with strictly smaller merit taken", else half the scale
@@ -44,7 +40,7 @@ trialAt s t scale = pick (t .merit <? s .merit) (out (trial.Better t)) (on (scal
 abbrev pub trialStep : Patch → Patch → Target → Residual → Parameters → ℕ → Float → Flow Float Trial
 trialStep a b target s d i scale = trialAt s (residualOf a b target (withinBounds a b (shiftedOf target (s .x) d scale))) scale
 
--- "Without one the rounds end."
+-- the 12 trials are spent, none was better
 abbrev pub noTrial : Float → Trial
 noTrial scale = trial.Nothing
 
@@ -68,14 +64,14 @@ afterTrials a b confusion s (trial.Better t) = round.Next t
 afterTrials a b confusion s trial.Nothing = round.End (lastTest a b confusion s)
 
 -- "A failed solve refuses, even where that last test would pass."
-abbrev pub afterStep : Patch → Patch → Target → Float → Residual → Step → Round
-afterStep a b target confusion s (step.By d) = afterTrials a b confusion s (trialsOf a b target s d)
-afterStep a b target confusion s step.Singular = round.End Nothing
+abbrev pub afterSolve : Patch → Patch → Target → Float → Residual → Step → Round
+afterSolve a b target confusion s (step.By d) = afterTrials a b confusion s (trialsOf a b target s d)
+afterSolve a b target confusion s step.Singular = round.End Nothing
 
 -- "accepted at once when gap and plane offset are at most a tenth of confusion; else a solve, and up to 12 trials"
 unfoldable pub roundOf : Patch → Patch → Target → Float → Residual → Round
 roundOf a b target confusion s =
-    pick (nearOf a b s (tenth ⊗ confusion)) (round.End (At (s .x))) (afterStep a b target confusion s (newtonStep a b target s))
+    pick (nearOf a b s (tenth ⊗ confusion)) (round.End (At (s .x))) (afterSolve a b target confusion s (newtonStep a b target s))
 
 -- ---- "at most 32 rounds"
 

@@ -5,7 +5,7 @@ use lib.Ieee.{Float}
 use Rattle.loops.specs.Loop.{pick}
 use Rattle.patch.specs.declared.patch.Parameters.{Parameters}
 
--- the k-th of four, 0 to 3
+-- the k-th of four, 0 to 3; an index above 3 counts as 3
 abbrev pub ofFour : {A : Type 0} → ℕ → A → A → A → A → A
 ofFour k a b c d = pick (eqb k 0) a (pick (eqb k 1) b (pick (eqb k 2) c d))
 

@@ -6,6 +6,7 @@ use lib.ListN.{getD}
 use lib.Ieee.{Float, neg}
 use Rattle.loops.specs.Loop.{pick}
 use Rattle.number.specs.Operators.{bits, _⊕_, _⊗_}
+use Rattle.number.specs.Helpers.{sumStart}
 use Rattle.vector.specs.declared.Vector3D.{Vector3D}
 use Rattle.geometry.specs.declared.point.Point3D.{Point3D}
 use Rattle.vector.specs.Vector.{vectorOf, dotOf, negOf}
@@ -59,9 +60,10 @@ columnsOf a b x = record {
 
 -- "`sum` starts from the zero of the oracle's toolchain": -0
 unfoldable pub dot4Of : Float → Float → Float → Float → Float → Float → Float → Float → Float
-dot4Of p0 p1 p2 p3 q0 q1 q2 q3 = neg (bits 0) ⊕ p0 ⊗ q0 ⊕ p1 ⊗ q1 ⊕ p2 ⊗ q2 ⊕ p3 ⊗ q3
+dot4Of p0 p1 p2 p3 q0 q1 q2 q3 = sumStart ⊕ p0 ⊗ q0 ⊕ p1 ⊗ q1 ⊕ p2 ⊗ q2 ⊕ p3 ⊗ q3
 
--- J J^T of the minimum-norm step
+-- J J^T of the minimum-norm step; of the Rust's nine sums the three below the diagonal have the bits of those above it, since a product does
+-- not depend on the order of its factors
 unfoldable pub normalMatrix : Columns → List (List Float)
 normalMatrix c =
     let xx = dot4Of (c .c0 .x) (c .c1 .x) (c .c2 .x) (c .c3 .x) (c .c0 .x) (c .c1 .x) (c .c2 .x) (c .c3 .x) in
@@ -105,7 +107,7 @@ planeStep c normal f r =
     (neg (f .x) ∷ neg (f .y) ∷ neg (f .z) ∷ neg r ∷ [])
     solverTol)
 
--- the Rust's columns[k]
+-- the Rust's cols[k]
 unfoldable pub columnOf : Columns → ℕ → Vector3D
 columnOf c k = ofFour k (c .c0) (c .c1) (c .c2) (c .c3)
 

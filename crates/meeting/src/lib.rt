@@ -5,4 +5,3 @@ pub mod parameters;
 pub mod step;
 
 pub use newton::Met;
-pub use step::Target;

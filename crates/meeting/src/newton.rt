@@ -22,7 +22,7 @@ pub enum Met {
     Nothing,
 }
 
-// The first trial that falls short of the merit, if one does.
+// The first trial with strictly smaller merit, if there is one.
 pub enum Trial {
     Better(Residual),
     Nothing,
@@ -80,6 +80,7 @@ fn last_test(a: Patch, b: Patch, confusion: f64, s: Residual) -> Met
     }
 }
 
+// One round: accepted at once, or a step and its trials.
 fn newton_round(a: Patch, b: Patch, target: Target, confusion: f64, s: Residual) -> Round
     ensures { λ r. ⌜ r ≡ roundOf a b target confusion s ⌝ }
 {
@@ -98,6 +99,7 @@ fn newton_round(a: Patch, b: Patch, target: Target, confusion: f64, s: Residual)
     Round::Next(t)
 }
 
+// At most 32 rounds from x.
 fn newton(a: Patch, b: Patch, target: Target, x: Parameters, confusion: f64) -> Met
     ensures { λ r. ⌜ r ≡ newtonOf a b target x confusion ⌝ }
 {

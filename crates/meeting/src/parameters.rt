@@ -1,10 +1,9 @@
-// One of the four parameters by its index: u1, v1, u2, v2.
+// One of the four parameters by its index: u1, v1, u2, v2; an index above 3 counts as 3.
 use patch::Parameters;
-use patch::Patch;
-use patch::Window;
 ghost use mathlib.Core.Path.{_≡_};
 ghost use Rattle.meeting.specs.Parameters.{parameterOf, withParameter};
 
+// Parameter k.
 pub(crate) fn parameter(x: Parameters, k: usize) -> f64
     ensures { λ r. ⌜ r ≡ parameterOf x k ⌝ }
 {
@@ -20,6 +19,7 @@ pub(crate) fn parameter(x: Parameters, k: usize) -> f64
     x.v2
 }
 
+// The parameters with the k-th replaced.
 pub(crate) fn with_parameter(x: Parameters, k: usize, value: f64) -> Parameters
     ensures { λ r. ⌜ r ≡ withParameter x k value ⌝ }
 {

@@ -9,7 +9,7 @@ use solve::Solved3;
 use solve::Solved4;
 use vector::Vector3D;
 ghost use mathlib.Core.Path.{_≡_};
-ghost use Prim.Native.Nat.{_<_, _≤_};
+ghost use Prim.Native.Nat.{_<_};
 ghost use Rattle.meeting.specs.Step.{offsetOf, residualOf, columnsOf, dot4Of, normalMatrix, freeStep, planeStep, columnOf, freeOf, placedOf, pinStep, newtonStep, shiftedOf};
 
 // What is solved beside S1(u1, v1) = S2(u2, v2): nothing (the minimum-norm step), a plane through a point with a normal, or a
@@ -42,6 +42,7 @@ pub enum Step {
     Singular,
 }
 
+// How far p lies off the plane; 0 where there is none.
 fn offset(target: Target, p: Point3D) -> f64
     ensures { λ r. ⌜ r ≡ offsetOf target p ⌝ }
 {
@@ -52,6 +53,7 @@ fn offset(target: Target, p: Point3D) -> f64
     }
 }
 
+// The residual at the parameters.
 pub(crate) fn residual_at(a: Patch, b: Patch, target: Target, x: Parameters) -> Residual
     ensures { λ r. ⌜ r ≡ residualOf a b target x ⌝ }
 {
@@ -65,6 +67,7 @@ pub(crate) fn residual_at(a: Patch, b: Patch, target: Target, x: Parameters) -> 
     Residual { x, f, r, merit }
 }
 
+// The derivatives of the difference of the two points.
 fn jacobian(a: Patch, b: Patch, x: Parameters) -> Columns
     ensures { λ r. ⌜ r ≡ columnsOf a b x ⌝ }
 {
@@ -155,6 +158,7 @@ fn plane_step(c: Columns, normal: Vector3D, f: Vector3D, r: f64) -> Step
     }
 }
 
+// The k-th of the four columns; an index above 3 counts as 3.
 fn column(c: Columns, k: usize) -> Vector3D
     ensures { λ r. ⌜ r ≡ columnOf c k ⌝ }
 {
@@ -214,6 +218,7 @@ fn pin_step(c: Columns, pin: usize, f: Vector3D) -> Step
     }
 }
 
+// The change of the parameters that the target asks for.
 pub(crate) fn newton_step(a: Patch, b: Patch, target: Target, s: Residual) -> Step
     ensures { λ r. ⌜ r ≡ newtonStep a b target s ⌝ }
 {

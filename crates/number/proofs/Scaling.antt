@@ -10,16 +10,13 @@ use lib.Ieee.{Float, binary64, size, round, le, ofBits, fits}
 use lib.Ieee.Scale.{finite, grid, round-same, round-val}
 use lib.Ieee.Positive.{positive, positive-of-value, mul-mono}
 use Rattle.number.specs.Operators.{_⊗_, _<?_, _≤?_, bits}
-use Rattle.number.specs.Helpers.{one, half}
+use Rattle.number.specs.Helpers.{one, half, tenth}
 use Rattle.number.specs.Units.{unit, mag, neg?}
 use Rattle.number.proofs.Values.{Is, Held, is-number, whole, held, below-top, mul-is}
 use Rattle.number.proofs.Rounding.{error}
 use Rattle.number.proofs.Neighbours.{multiple}
 use Rattle.number.proofs.Sums.{round-held, unlike-false}
 use Rattle.number.proofs.Order.{le-self, le-through, le→units, units→le, not-le→lt}
-
-abbrev tenth : Float
-tenth = bits 0x3FB9_9999_9999_999A
 
 one-is : Is one false unit
 unfolding ofBits

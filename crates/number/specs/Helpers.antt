@@ -1,16 +1,28 @@
 -- What the helpers on binary64 numbers give. Definitions only.
 use mathlib.Core.Bool.{Bool, false, cond}
 use lib.Dec.{eqb}
-use lib.Ieee.{Float, nan, inf, fin, binary64, isNan, toBits}
+use lib.Ieee.{Float, nan, inf, fin, binary64, isNan, neg, toBits}
 use Rattle.number.specs.Operators.{bits, _<?_, _≤?_}
 
 -- the Rust's `1.0`
 abbrev pub one : Float
 one = bits 0x3FF0_0000_0000_0000
 
+-- the Rust's `2.0`
+abbrev pub two : Float
+two = bits 0x4000_0000_0000_0000
+
 -- the Rust's `0.5`, by which strides and trials shrink
 abbrev pub half : Float
 half = bits 0x3FE0_0000_0000_0000
+
+-- the Rust's `0.1`: "a tenth of confusion", "0.1 of the stride"
+abbrev pub tenth : Float
+tenth = bits 0x3FB9_9999_9999_999A
+
+-- "`sum` starts from the zero of the oracle's toolchain": -0.0
+abbrev pub sumStart : Float
+sumStart = neg (bits 0)
 
 -- "smallest normal": 2^-1022, the Rust's `f64::MIN_POSITIVE`
 abbrev pub minPositive : Float

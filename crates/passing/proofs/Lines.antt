@@ -17,7 +17,7 @@ use Rattle.patch.specs.declared.patch.Parameters.{Parameters}
 use Rattle.good.specs.Good.{Good}
 use Rattle.certificate.specs.Passes.{closingChord}
 use Rattle.walk.specs.Half.{halfOf}
-use Rattle.walk.specs.Line.{Line, ahead, back, lineOf}
+use Rattle.walk.specs.Line.{Line, forward, backward, lineOf}
 use Rattle.passing.proofs.Chains.{All, all-append, all-turned, Linked, linked-at, linked-join, linked-turned}
 use Rattle.passing.proofs.Halves.{Near, near-swap, Ends, left-open, came-round, HalfFine, half-fine}
 
@@ -130,6 +130,6 @@ pub line-fine : (a b : Patch) (tol : Tolerance) → T (fits binary64 (tol .confu
 unfolding lineOf
 line-fine a b tol fc x gx t n =
     line-made a b (tol .confusion) x gx n
-    (halfOf a b tol ahead x t n .points) (halfOf a b tol ahead x t n .closed)
-    (halfOf a b tol back x t n .points) (halfOf a b tol back x t n .closed)
-    (half-fine a b tol fc ahead x gx n t) (half-fine a b tol fc back x gx n t)
+    (halfOf a b tol forward x t n .points) (halfOf a b tol forward x t n .closed)
+    (halfOf a b tol backward x t n .points) (halfOf a b tol backward x t n .closed)
+    (half-fine a b tol fc forward x gx n t) (half-fine a b tol fc backward x gx n t)

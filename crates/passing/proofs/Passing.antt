@@ -13,6 +13,7 @@ use Rattle.groups.specs.Groups.{width}
 use Rattle.groups.specs.Row.{zero}
 use Rattle.refusal.specs.declared.Refusal.{Refusal}
 use Rattle.refusal.specs.declared.Refusal.the-variants as refusal
+use Rattle.refusal.proofs.Laws.{number-positive}
 use Rattle.tolerance.specs.declared.Tolerance.{Tolerance}
 use Rattle.tolerance.specs.Tolerance.{toleranceFit}
 use Rattle.patch.specs.declared.patch.Patch.{Patch}
@@ -35,7 +36,7 @@ use Rattle.certificate.proofs.Passed.{passes-checked}
 use Rattle.walk.specs.Lent.{rowsOf}
 use Rattle.walk.specs.Line.{lineOf}
 use Rattle.walk.specs.Line as line
-use Rattle.walk.specs.Trace.{Outcome, countOf, startOf, closingOf, callFitness, room, settled, afterDirection, afterSeed, walkedOf, afterCall, traceOf}
+use Rattle.walk.specs.Trace.{Outcome, refusalOf, countOf, startOf, closingOf, callFitness, room, settled, afterDirection, afterSeed, walkedOf, afterCall, traceOf}
 use Rattle.walk.specs.declared.answer.Traced.{Traced}
 use Rattle.walk.specs.declared.answer.Traced.the-variants.{Line, Refused}
 use Rattle.walk.proofs.Calls.{call-fit}
@@ -50,6 +51,11 @@ sign (Refused r) = 0
 
 unlined : {r : Refusal} {count start closing : ℕ} → Refused r ≡ Line count start closing → ⊥
 unlined e = let z : _≡_ {A = ℕ} 0 1 = ap sign e in omega arith
+
+-- an answer without a refusal is the line of its values
+lined : (r : Traced) → refusalOf r ≡ 0 → r ≡ Line (countOf r) (startOf r) (closingOf r)
+lined (Line count start closing) e = refl
+lined (Refused q) e = let h = number-positive q in absurd (omega (arith, h, e))
 
 -- ---- a fit call
 
@@ -105,14 +111,14 @@ trace-passes a b tol guess n l fc count start closing e = go (callFitness a b to
         let s = call-fit a b tol guess n l k in
         walked-passing a b tol fc (s .0) (s .1) (s .2) n (s .3) (drop (room n) l) count start closing guess q
 
--- as a caller of `trace` has it, from the two equations of its contract
+-- as a caller of `trace` has it, from the two equations of its contract: what is answered without a refusal passes
 module _ (a b : Patch) (tol : Tolerance) (guess : Parameters) (n : ℕ) (l : List Float) (fc : T (fits binary64 (tol .confusion))) {r : Traced} {after : List Float}
-    (answer : r ≡ traceOf a b tol guess n l .answer) (buffer : after ≡ traceOf a b tol guess n l .buffer) (count start closing : ℕ) (is-line : r ≡ Line count start closing) where
-  pub traced-passes : Passes a b tol after count start closing
+    (answer : r ≡ traceOf a b tol guess n l .answer) (buffer : after ≡ traceOf a b tol guess n l .buffer) (answered : refusalOf r ≡ 0) where
+  pub traced-passes : Passes a b tol after (countOf r) (startOf r) (closingOf r)
   traced-passes =
-      subst (λ (k : List Float). Passes a b tol k count start closing) (sym buffer)
-      (trace-passes a b tol guess n l fc count start closing (sym answer ∙ is-line))
+      subst (λ (k : List Float). Passes a b tol k (countOf r) (startOf r) (closingOf r)) (sym buffer)
+      (trace-passes a b tol guess n l fc (countOf r) (startOf r) (closingOf r) (sym answer ∙ lined r answered))
 
   -- and so `check` says passed of it
-  pub traced-checked : checkOf a b tol after count start closing ≡ Passed
-  traced-checked = passes-checked a b tol after count start closing traced-passes
+  pub traced-checked : checkOf a b tol after (countOf r) (startOf r) (closingOf r) ≡ Passed
+  traced-checked = passes-checked a b tol after (countOf r) (startOf r) (closingOf r) traced-passes

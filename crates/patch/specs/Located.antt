@@ -1,9 +1,11 @@
 -- The public point, and the points of two surfaces at four parameters. Definitions only.
+use Prim.Native.Nat.{ℕ}
 use lib.Ieee.{Float}
 use lib.Ieee.Scale.{finite}
 use Rattle.loops.specs.Loop.{pick}
 use Rattle.geometry.specs.declared.point.Point3D.{Point3D}
 use Rattle.refusal.specs.declared.Refusal.the-variants.{Parameter}
+use Rattle.refusal.specs.Refusal.{numberOf}
 use Rattle.patch.specs.declared.patch.Patch.{Patch}
 use Rattle.patch.specs.declared.patch.Parameters.{Parameters}
 use Rattle.patch.specs.declared.patch.Fitness.{Fitness}
@@ -12,6 +14,11 @@ use Rattle.patch.specs.declared.point.Located.{Located}
 use Rattle.patch.specs.declared.point.Located.the-variants.{At, Refused}
 use Rattle.analytic.specs.Surface.{evalPoint}
 use Rattle.patch.specs.Patch.{fitnessOf}
+
+-- "A refusal is its number alone"; 0 where there is none
+abbrev pub refusalOf : Located → ℕ
+refusalOf (At p) = 0
+refusalOf (Refused r) = numberOf r
 
 -- A's point at the parameters: the walk's, and of the check's two points, "both worked out afresh at its parameters", the first
 abbrev pub pointA : Patch → Parameters → Point3D

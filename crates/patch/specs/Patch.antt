@@ -61,7 +61,7 @@ sizesFit (Cone f r a) = coneFits r a
 sizesFit (Sphere f r) = bits 0 <? r
 sizesFit (Torus f maj min) = bothPositive maj min
 
--- ---- 3: "a window number is NaN, or a low end lies above its high end. Infinite and equal ends are allowed."
+-- ---- what 3 lets through: "a window number is NaN, or a low end lies above its high end. Infinite and equal ends are allowed."
 unfoldable pub windowFit : Window → Bool
 windowFit w = w .low ≤? w .high
 
@@ -116,6 +116,6 @@ insideOf a b x = windowHolds (a .u) (x .u1) && (windowHolds (a .v) (x .v1) && (w
 unfoldable pub boundedOf : Window → Float → Float
 boundedOf w x = pick (w .turn) x (clampOf x (w .low) (w .high))
 
--- "the guess is clamped to windows without turn mark"
+-- the Rust's within_bounds, of the guess and of every trial: "clamped to windows without turn mark"
 unfoldable pub withinBounds : Patch → Patch → Parameters → Parameters
 withinBounds a b x = record { u1 = boundedOf (a .u) (x .u1); v1 = boundedOf (a .v) (x .v1); u2 = boundedOf (b .u) (x .u2); v2 = boundedOf (b .v) (x .v2) }

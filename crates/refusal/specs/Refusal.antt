@@ -25,7 +25,7 @@ numberOf BoxNumber = 17
 numberOf Coordinate = 18
 numberOf JobFile = 19
 
--- the index of the point, from 0, that 13 to 16 add
+-- the index of the point, from 0, that 13 to 16 add; 0 for all others
 abbrev pub indexOf : Refusal → ℕ
 indexOf Number = 0
 indexOf Size = 0

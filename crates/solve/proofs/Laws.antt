@@ -10,7 +10,7 @@ use Rattle.loops.proofs.Loop.{searched-again, searched-leave}
 use Rattle.number.specs.Operators.{_⊖_, _⊗_, _⊘_, _<?_}
 use Rattle.number.specs.Helpers.{absOf}
 use Rattle.cramer.specs.Cramer.{cell, givesUp}
-use Rattle.solve.specs.Solve.{system, greaterOf, heldOf, better, factorOf, lessOf, clearRow, restOf, backRow, pivotOf, swapOf, clearedOf, scaleOf, column, solving, solveOf, Answer, singular}
+use Rattle.solve.specs.Solve.{system, greaterOf, heldOf, better, factorOf, rowReduced, clearRow, substituted, backRow, pivotOf, swapOf, clearedOf, sumOfMagnitudes, column, solving, solveOf, Answer, singular}
 
 -- the better of two rows is a row
 pub better-below : (n : ℕ) (m : List (List Float)) (col row pivot : ℕ) {r : ℕ} → r ≡ better m col row pivot → row < n → pivot < n → r < n
@@ -36,18 +36,18 @@ module _ (m : List (List Float)) (col row pivot : ℕ) {held : Float} {r : ℕ} 
 
 -- a row is cleared, and its right side follows
 pub row-cleared : (n col row : ℕ) (m : List (List Float)) (b : List Float) {r : List Float}
-    → r ≡ lessOf n (getD m row []) (getD m col []) (factorOf m col row) col
+    → r ≡ rowReduced n (getD m row []) (getD m col []) (factorOf m col row) col
     → system (set m row r) (set b row (getD b row nan ⊖ factorOf m col row ⊗ getD b col nan)) ≡ clearRow n col row (system m b)
 row-cleared n col row m b e = rw e
 
 -- an entry of the solution is found
 pub row-solved : (n row : ℕ) (m : List (List Float)) (b x : List Float) {acc : Float}
-    → acc ≡ restOf n (getD m row []) x (row + 1) (getD b row nan)
+    → acc ≡ substituted n (getD m row []) x (row + 1) (getD b row nan)
     → set x row (acc ⊘ cell m row row) ≡ backRow n (system m b) row x
 row-solved n row m b x e = rw e
 
 -- a solver starts with the sum taken
-pub starts : (n : ℕ) (m : List (List Float)) (b : List Float) (tol : Float) {scale : Float} → scale ≡ scaleOf n m
+pub starts : (n : ℕ) (m : List (List Float)) (b : List Float) (tol : Float) {scale : Float} → scale ≡ sumOfMagnitudes n m
     → solving n tol scale 0 (system m b) ≡ solveOf n m b tol
 unfolding solveOf
 starts n m b tol e = rw e

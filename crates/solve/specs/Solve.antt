@@ -1,11 +1,12 @@
 -- The square solvers (01, "The walk", "Solving"; the Rust's math/solve.rs), over lists of any size n. Definitions only.
+use mathlib.Core.Bool.{Bool}
 use mathlib.Core.List.{List, []}
 use Prim.Native.Nat.{ℕ, _+_, _-_}
 use lib.ListN.{getD, set, replicate}
 use lib.Ieee.{Float, nan}
 use Rattle.loops.specs.Loop.{pick, ranged, Flow, on, out, searched}
 use Rattle.number.specs.Operators.{_⊕_, _⊖_, _⊗_, _⊘_, _<?_, bits}
-use Rattle.number.specs.Helpers.{absOf}
+use Rattle.number.specs.Helpers.{absOf, sumStart}
 use Rattle.cramer.specs.Cramer.{cell, givesUp}
 use Rattle.solve.specs.declared.Solved3.{Solved3}
 use Rattle.solve.specs.declared.Solved4.{Solved4}
@@ -25,16 +26,20 @@ abbrev pub addRow : ℕ → List (List Float) → ℕ → Float → Float
 addRow n m i sum = magnitudesOf n (getD m i []) sum
 
 -- the Rust's `scale`, "the sum taken before elimination": all entries row by row, from the -0 that `sum` starts from
-abbrev pub scaleOf : ℕ → List (List Float) → Float
-scaleOf n m = ranged (addRow n m) 0 n (bits 0x8000_0000_0000_0000)
+abbrev pub sumOfMagnitudes : ℕ → List (List Float) → Float
+sumOfMagnitudes n m = ranged (addRow n m) 0 n sumStart
 
 -- an entry displaces the one held where it is greater in magnitude: "a NaN neither displaces nor is displaced"
+abbrev pub displaces : Float → Float → Bool
+displaces held entry = absOf held <? absOf entry
+
+-- the row that is held after it
 abbrev pub greaterOf : Float → Float → ℕ → ℕ → ℕ
-greaterOf held entry pivot row = pick (absOf held <? absOf entry) row pivot
+greaterOf held entry pivot row = pick (displaces held entry) row pivot
 
 -- the entry that is held after it
 abbrev pub heldOf : Float → Float → Float
-heldOf held entry = pick (absOf held <? absOf entry) entry held
+heldOf held entry = pick (displaces held entry) entry held
 
 -- the better of two rows in column col
 abbrev pub better : List (List Float) → ℕ → ℕ → ℕ → ℕ
@@ -49,12 +54,12 @@ abbrev pub swapOf : {A : Type 0} → A → List A → ℕ → ℕ → List A
 swapOf d l i j = set (set l i (getD l j d)) j (getD l i d)
 
 -- `*cell -= factor * pivot_row[k]`
-abbrev pub lessAt : List Float → Float → ℕ → List Float → List Float
-lessAt pivot factor k row = set row k (getD row k nan ⊖ factor ⊗ getD pivot k nan)
+abbrev pub entryReduced : List Float → Float → ℕ → List Float → List Float
+entryReduced pivot factor k row = set row k (getD row k nan ⊖ factor ⊗ getD pivot k nan)
 
 -- a row less factor times the pivot's row, from column col on
-abbrev pub lessOf : ℕ → List Float → List Float → Float → ℕ → List Float
-lessOf n row pivot factor col = ranged (lessAt pivot factor) col n row
+abbrev pub rowReduced : ℕ → List Float → List Float → Float → ℕ → List Float
+rowReduced n row pivot factor col = ranged (entryReduced pivot factor) col n row
 
 -- a matrix, and the right side beside it
 pub record System : Type 0 where
@@ -73,7 +78,7 @@ factorOf m col row = cell m row col ⊘ cell m col col
 abbrev pub clearRow : ℕ → ℕ → ℕ → System → System
 clearRow n col row s =
     system
-    (set (s .rows) row (lessOf n (getD (s .rows) row []) (getD (s .rows) col []) (factorOf (s .rows) col row) col))
+    (set (s .rows) row (rowReduced n (getD (s .rows) row []) (getD (s .rows) col []) (factorOf (s .rows) col row) col))
     (set (s .right) row (getD (s .right) row nan ⊖ factorOf (s .rows) col row ⊗ getD (s .right) col nan))
 
 -- all rows below col, one after the other
@@ -89,21 +94,21 @@ abbrev pub lessProduct : List Float → List Float → ℕ → Float → Float
 lessProduct row x k acc = acc ⊖ getD row k nan ⊗ getD x k nan
 
 -- `acc` after the columns from `from` on
-abbrev pub restOf : ℕ → List Float → List Float → ℕ → Float → Float
-restOf n row x from acc = ranged (lessProduct row x) from n acc
+abbrev pub substituted : ℕ → List Float → List Float → ℕ → Float → Float
+substituted n row x from acc = ranged (lessProduct row x) from n acc
 
 -- `x[row] = acc / m[row][row]`, with `acc` from `b[row]` and the entries of x behind row
 abbrev pub backRow : ℕ → System → ℕ → List Float → List Float
 backRow n s row x =
-    set x row (restOf n (getD (s .rows) row []) x (row + 1) (getD (s .right) row nan) ⊘ cell (s .rows) row row)
+    set x row (substituted n (getD (s .rows) row []) x (row + 1) (getD (s .right) row nan) ⊘ cell (s .rows) row row)
 
 -- turn i of `for row in (0..N).rev()`
 abbrev pub backTurn : ℕ → System → ℕ → List Float → List Float
 backTurn n s i x = backRow n s (n - 1 - i) x
 
 -- back substitution, from `[0.0; N]`
-abbrev pub backOf : ℕ → System → List Float
-backOf n s = ranged (backTurn n s) 0 n (replicate n (bits 0))
+abbrev pub backSubstitution : ℕ → System → List Float
+backSubstitution n s = ranged (backTurn n s) 0 n (replicate n (bits 0))
 
 -- the answer of `solve_square`: the solution, or that a column had no pivot (`None`)
 pub data Answer : Type 0 where
@@ -117,18 +122,18 @@ column n tol scale col s =
 
 -- the columns from col on, then back substitution
 abbrev pub solving : ℕ → Float → Float → ℕ → System → Answer
-solving n tol scale col s = searched (column n tol scale) (λ t. solution (backOf n t)) col n (on s)
+solving n tol scale col s = searched (column n tol scale) (λ t. solution (backSubstitution n t)) col n (on s)
 
 -- `solve_square`
 unfoldable pub solveOf : ℕ → List (List Float) → List Float → Float → Answer
-solveOf n m b tol = solving n tol (scaleOf n m) 0 (system m b)
+solveOf n m b tol = solving n tol (sumOfMagnitudes n m) 0 (system m b)
 
--- what the answer of a size says, the solution's entries by name
+-- the answer for three unknowns, the solution's entries by name
 abbrev pub answer3 : Answer → Solved3
 answer3 (solution x) = solved3.Solution (record { x0 = getD x 0 nan; x1 = getD x 1 nan; x2 = getD x 2 nan })
 answer3 singular = solved3.Singular
 
--- the same for four
+-- the same for four unknowns
 abbrev pub answer4 : Answer → Solved4
 answer4 (solution x) =
     solved4.Solution (record { x0 = getD x 0 nan; x1 = getD x 1 nan; x2 = getD x 2 nan; x3 = getD x 3 nan })

@@ -1,21 +1,23 @@
 //! Small linear systems of 3 and 4 unknowns: `solve_square` of the Rust's `math/solve.rs`. Its `solve_2x2` is the crate `cramer`.
 //!
 //! Each solver answers for every input, NaNs and infinities too, and its answer is the one that `specs/Solve.antt` computes.
-//! Rattle has no const generics: what works on one row or on the right side takes a slice and serves both sizes, and what
-//! works on a whole matrix stands once for 3 and once for 4, over one definition and one set of laws.
+//! Rattle has no const generics: what works on one row takes a slice and serves both sizes, and what works on a whole matrix or swaps the
+//! right side stands once for 3 and once for 4, over one definition and one set of laws.
 ghost use mathlib.Core.Path.{_≡_};
 ghost use mathlib.Core.List.{[]};
 ghost use lib.Ieee.{nan};
 ghost use lib.ListN.{length};
 ghost use Prim.Native.Nat.{_<_, _≤_};
-ghost use Rattle.solve.specs.Solve.{solve3Of, solve4Of, magnitudesOf, scaleOf, greaterOf, heldOf, pivotOf, swapOf, lessOf, system, clearedOf, restOf, backOf};
+ghost use Rattle.solve.specs.Solve.{solve3Of, solve4Of, magnitudesOf, sumOfMagnitudes, greaterOf, heldOf, pivotOf, swapOf, rowReduced, system, clearedOf, substituted, backSubstitution};
 
+// The unknowns, from the first on.
 pub struct Solution3 {
     pub x0: f64,
     pub x1: f64,
     pub x2: f64,
 }
 
+// The unknowns, from the first on.
 pub struct Solution4 {
     pub x0: f64,
     pub x1: f64,
@@ -23,11 +25,13 @@ pub struct Solution4 {
     pub x3: f64,
 }
 
+// The solution, or that the solver gave up.
 pub enum Solved3 {
     Solution(Solution3),
     Singular,
 }
 
+// The solution, or that the solver gave up.
 pub enum Solved4 {
     Solution(Solution4),
     Singular,
@@ -68,7 +72,7 @@ fn greater(held: f64, entry: f64, pivot: usize, row: usize) -> Held
 // The row less factor times the pivot's row, from column col on.
 fn clear(row: &mut [f64], pivot: &[f64], n: usize, factor: f64, col: usize)
     requires { ⌜ (n ≤ length (now row)) × ((n ≤ length (now pivot)) × (col ≤ n)) ⌝ }
-    ensures { λ _. ⌜ now (row .exit) ≡ lessOf n (now (row .entry)) (now (pivot .entry)) factor col ⌝ }
+    ensures { λ _. ⌜ now (row .exit) ≡ rowReduced n (now (row .entry)) (now (pivot .entry)) factor col ⌝ }
 {
     for k in col..n {
         row[k] = row[k] - factor * pivot[k];
@@ -78,7 +82,7 @@ fn clear(row: &mut [f64], pivot: &[f64], n: usize, factor: f64, col: usize)
 // acc less the products of the row's entries and the solution's, from column `from` on.
 fn rest(row: &[f64], x: &[f64], n: usize, from: usize, acc: f64) -> f64
     requires { ⌜ (n ≤ length (now row)) × ((n ≤ length (now x)) × (from ≤ n)) ⌝ }
-    ensures { λ r. ⌜ r ≡ restOf n (now (row .entry)) (now (x .entry)) from acc ⌝ }
+    ensures { λ r. ⌜ r ≡ substituted n (now (row .entry)) (now (x .entry)) from acc ⌝ }
 {
     let mut acc = acc;
     for k in from..n {
@@ -96,7 +100,7 @@ fn magnitudes3(row: [f64; 3], sum: f64) -> f64
 
 fn clear3(row: [f64; 3], pivot: [f64; 3], factor: f64, col: usize) -> [f64; 3]
     requires { ⌜ col < 3 ⌝ }
-    ensures { λ r. ⌜ r ≡ lessOf 3 row pivot factor col ⌝ }
+    ensures { λ r. ⌜ r ≡ rowReduced 3 row pivot factor col ⌝ }
 {
     let mut row = row;
     clear(&mut row, &pivot, 3, factor, col);
@@ -105,14 +109,14 @@ fn clear3(row: [f64; 3], pivot: [f64; 3], factor: f64, col: usize) -> [f64; 3]
 
 fn rest3(row: [f64; 3], x: [f64; 3], from: usize, acc: f64) -> f64
     requires { ⌜ from ≤ 3 ⌝ }
-    ensures { λ r. ⌜ r ≡ restOf 3 row x from acc ⌝ }
+    ensures { λ r. ⌜ r ≡ substituted 3 row x from acc ⌝ }
 {
     rest(&row, &x, 3, from, acc)
 }
 
 // The sum of the magnitudes, row by row, from the zero that the Rust's `sum` starts from.
 fn scale3(m: [[f64; 3]; 3]) -> f64
-    ensures { λ r. ⌜ r ≡ scaleOf 3 m ⌝ }
+    ensures { λ r. ⌜ r ≡ sumOfMagnitudes 3 m ⌝ }
 {
     let mut sum = -0.0;
     for i in 0..3 {
@@ -147,6 +151,7 @@ fn swapped_rows3(m: [[f64; 3]; 3], i: usize, j: usize) -> [[f64; 3]; 3]
     m
 }
 
+// Each arm has its index as a number, so that the rows stay in registers.
 fn swap_rows3(m: [[f64; 3]; 3], i: usize, j: usize) -> [[f64; 3]; 3]
     requires { ⌜ (i < 3) × (j < 3) ⌝ }
     ensures { λ r. ⌜ r ≡ swapOf [] m i j ⌝ }
@@ -169,6 +174,7 @@ fn swapped3(b: [f64; 3], i: usize, j: usize) -> [f64; 3]
     b
 }
 
+// Likewise for the right side.
 fn swap3(b: [f64; 3], i: usize, j: usize) -> [f64; 3]
     requires { ⌜ (i < 3) × (j < 3) ⌝ }
     ensures { λ r. ⌜ r ≡ swapOf nan b i j ⌝ }
@@ -197,7 +203,7 @@ fn eliminate3(m: [[f64; 3]; 3], b: &mut [f64; 3], col: usize) -> [[f64; 3]; 3]
 
 // Back substitution, from the last row up.
 fn back3(m: [[f64; 3]; 3], b: [f64; 3]) -> [f64; 3]
-    ensures { λ r. ⌜ r ≡ backOf 3 (system m b) ⌝ }
+    ensures { λ r. ⌜ r ≡ backSubstitution 3 (system m b) ⌝ }
 {
     let mut x = [0.0; 3];
     for i in 0..3 {
@@ -252,7 +258,7 @@ fn magnitudes4(row: [f64; 4], sum: f64) -> f64
 
 fn clear4(row: [f64; 4], pivot: [f64; 4], factor: f64, col: usize) -> [f64; 4]
     requires { ⌜ col < 4 ⌝ }
-    ensures { λ r. ⌜ r ≡ lessOf 4 row pivot factor col ⌝ }
+    ensures { λ r. ⌜ r ≡ rowReduced 4 row pivot factor col ⌝ }
 {
     let mut row = row;
     clear(&mut row, &pivot, 4, factor, col);
@@ -261,13 +267,13 @@ fn clear4(row: [f64; 4], pivot: [f64; 4], factor: f64, col: usize) -> [f64; 4]
 
 fn rest4(row: [f64; 4], x: [f64; 4], from: usize, acc: f64) -> f64
     requires { ⌜ from ≤ 4 ⌝ }
-    ensures { λ r. ⌜ r ≡ restOf 4 row x from acc ⌝ }
+    ensures { λ r. ⌜ r ≡ substituted 4 row x from acc ⌝ }
 {
     rest(&row, &x, 4, from, acc)
 }
 
 fn scale4(m: [[f64; 4]; 4]) -> f64
-    ensures { λ r. ⌜ r ≡ scaleOf 4 m ⌝ }
+    ensures { λ r. ⌜ r ≡ sumOfMagnitudes 4 m ⌝ }
 {
     let mut sum = -0.0;
     for i in 0..4 {
@@ -301,6 +307,7 @@ fn swapped_rows4(m: [[f64; 4]; 4], i: usize, j: usize) -> [[f64; 4]; 4]
     m
 }
 
+// Each arm has its index as a number, so that the rows stay in registers.
 fn swap_rows4(m: [[f64; 4]; 4], i: usize, j: usize) -> [[f64; 4]; 4]
     requires { ⌜ (i < 4) × (j < 4) ⌝ }
     ensures { λ r. ⌜ r ≡ swapOf [] m i j ⌝ }
@@ -324,6 +331,7 @@ fn swapped4(b: [f64; 4], i: usize, j: usize) -> [f64; 4]
     b
 }
 
+// Likewise for the right side.
 fn swap4(b: [f64; 4], i: usize, j: usize) -> [f64; 4]
     requires { ⌜ (i < 4) × (j < 4) ⌝ }
     ensures { λ r. ⌜ r ≡ swapOf nan b i j ⌝ }
@@ -351,7 +359,7 @@ fn eliminate4(m: [[f64; 4]; 4], b: &mut [f64; 4], col: usize) -> [[f64; 4]; 4]
 }
 
 fn back4(m: [[f64; 4]; 4], b: [f64; 4]) -> [f64; 4]
-    ensures { λ r. ⌜ r ≡ backOf 4 (system m b) ⌝ }
+    ensures { λ r. ⌜ r ≡ backSubstitution 4 (system m b) ⌝ }
 {
     let mut x = [0.0; 4];
     for i in 0..4 {

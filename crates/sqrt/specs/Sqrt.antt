@@ -25,7 +25,7 @@ roundRoot n =
     let q = w / 2 ^ k in
     units binary64 false (nearest q (compare (4 * n) ((2 * q + 1) * (2 * q + 1) * (2 ^ k * 2 ^ k)))) k
 
--- "that of negative zero is negative zero, of any other negative NaN"; of infinity it is infinity, of a units the root of a * unit units
+-- "that of negative zero is negative zero, of any other negative NaN"; of infinity it is infinity, of a number of a units the root of a * unit, in units
 unfoldable pub sqrtOf : Float → Float
 unfolding roundRoot
 sqrtOf nan = nan

@@ -10,7 +10,7 @@ use lib.Ieee.Fits.{and-l, and-r}
 use Rattle.loops.specs.Loop.{pick, Flow, out}
 use Rattle.loops.proofs.Loop.{Kept, searched-keeps}
 use Rattle.number.specs.Operators.{bits, _⊗_, _⊘_, _<?_, _≤?_}
-use Rattle.number.specs.Helpers.{maxOf, minPositive}
+use Rattle.number.specs.Helpers.{two, maxOf, minPositive}
 use Rattle.geometry.specs.declared.point.Point3D.{Point3D}
 use Rattle.vector.specs.declared.Vector3D.{Vector3D}
 use Rattle.tolerance.specs.declared.Tolerance.{Tolerance}
@@ -36,7 +36,7 @@ use Rattle.stride.specs.declared.attempt.Tried.{Tried}
 use Rattle.stride.specs.declared.attempt.Tried.the-variants as tried
 use Rattle.stride.specs.declared.shorten.Stride.{Stride}
 use Rattle.stride.specs.declared.shorten.Stride.the-variants as stride
-use Rattle.stride.specs.Attempt.{two, keptOf, onEdge, afterLanding, landedOf, turnOf, smoothOf, acceptedOf, onwardOf, afterTangent, afterMeeting, innerOf, towards, predicted, attemptOf}
+use Rattle.stride.specs.Attempt.{keptOf, landingKept, afterLanding, landedOf, turnOf, smoothOf, acceptedOf, onwardOf, afterTangent, afterMeeting, innerOf, towards, predicted, attemptOf}
 use Rattle.stride.specs.Shorten.{longestStride, strideStep, afterAttempt, noStride, halvingOf, strideOf}
 use Rattle.step.specs.Closing.{closesOf, nextStride}
 use Rattle.step.specs.Step.{edgeStep, cameRound, innerStep, nearStart, afterStride, stepOf}
@@ -69,16 +69,16 @@ module _ (a b : Patch) (tol : Tolerance) (w : Walker) where
   or-ended false s f = tt
 
 module _ (a b : Patch) (tol : Tolerance) (fit : T (toleranceFit tol)) (dir : Float) (w : Walker) where
-  edge-chord : (h : Float) (q : Point3D) → T (onEdge w h q) → T (distanceOf q (w .p) ≤? longestChord)
-  unfolding onEdge
+  edge-chord : (h : Float) (q : Point3D) → T (landingKept w h q) → T (distanceOf q (w .p) ≤? longestChord)
+  unfolding landingKept
   edge-chord h q t = kept-chord _ h (and-r (bits 0 ≤? dotOf (fromOf q (w .p)) (w .t)) _ t)
 
-  landing : (h : Float) (y : Parameters) → (T (fits binary64 (tol .confusion)) → Good a b (tol .confusion) y) → (t : Bool) → onEdge w h (pointA a y) ≡ t → TriedFine a b tol w (pick t (tried.Edge y (pointA a y)) tried.Nothing)
+  landing : (h : Float) (y : Parameters) → (T (fits binary64 (tol .confusion)) → Good a b (tol .confusion) y) → (t : Bool) → landingKept w h (pointA a y) ≡ t → TriedFine a b tol w (pick t (tried.Edge y (pointA a y)) tried.Nothing)
   landing h y g true e = record { own = refl; good = g; chord = edge-chord h (pointA a y) (subst T (sym e) tt) }
   landing h y g false e = tt
 
   landed-fine : (h : Float) (guess : Parameters) (pin : ℕ) (bound : Float) (m : Met) → landOf a b guess pin bound tol ≡ m → TriedFine a b tol w (afterLanding a w h m)
-  landed-fine h guess pin bound (met.At y) e = landing h y (λ k. land-good a b tol k fit guess y pin bound e) (onEdge w h (pointA a y)) refl
+  landed-fine h guess pin bound (met.At y) e = landing h y (λ k. land-good a b tol k fit guess y pin bound e) (landingKept w h (pointA a y)) refl
   landed-fine h guess pin bound met.Nothing e = tt
 
   accepted-chord : (h : Float) (ty : Vector3D) (chord turned : Float) → T (acceptedOf (tol .confusion) w h ty chord turned) → T (chord ≤? longestChord)

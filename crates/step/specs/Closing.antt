@@ -2,12 +2,12 @@
 use mathlib.Core.Bool.{Bool, _&&_}
 use lib.Ieee.{Float}
 use Rattle.number.specs.Operators.{bits, _⊕_, _⊗_, _⊘_, _≤?_}
-use Rattle.number.specs.Helpers.{maxOf, minOf, minPositive}
+use Rattle.number.specs.Helpers.{two, one, maxOf, minOf, minPositive}
 use Rattle.sqrt.specs.Sqrt.{sqrtOf}
 use Rattle.geometry.specs.declared.point.Point3D.{Point3D}
 use Rattle.vector.specs.Vector.{dotOf, scaleOf}
 use Rattle.geometry.specs.Point.{distanceOf, addVectorOf, fromOf}
-use Rattle.stride.specs.Attempt.{two, chordDeviation}
+use Rattle.stride.specs.Attempt.{chordDeviation}
 use Rattle.stride.specs.Shorten.{longestStride}
 
 -- (start - p).dot(q - p) / (q - p).dot(q - p).max(f64::MIN_POSITIVE)
@@ -21,7 +21,7 @@ nearestOf p q along = addVectorOf p (scaleOf (fromOf q p) along)
 -- (0.0..=1.0).contains(&along), and (p + (q - p) * along).distance(start) <= 4.0 * chord_deviation + 10.0 * tol.confusion
 abbrev pub closesAt : Float → Point3D → Point3D → Point3D → Float → Bool
 closesAt confusion start p q along =
-    bits 0 ≤? along && (along ≤? bits 0x3FF0_0000_0000_0000 && distanceOf (nearestOf p q along) start ≤? bits 0x4010_0000_0000_0000 ⊗ chordDeviation confusion ⊕ bits 0x4024_0000_0000_0000 ⊗ confusion)
+    bits 0 ≤? along && (along ≤? one && distanceOf (nearestOf p q along) start ≤? bits 0x4010_0000_0000_0000 ⊗ chordDeviation confusion ⊕ bits 0x4024_0000_0000_0000 ⊗ confusion)
 
 -- the same with `along` worked out: whether the chord from p to q closes the loop
 unfoldable pub closesOf : Float → Point3D → Point3D → Point3D → Bool

@@ -5,7 +5,7 @@ use lib.Dec.{leb}
 use lib.Ieee.{Float}
 use Rattle.loops.specs.Loop.{pick}
 use Rattle.number.specs.Operators.{bits, _⊗_, _<?_}
-use Rattle.number.specs.Helpers.{maxOf}
+use Rattle.number.specs.Helpers.{tenth, maxOf}
 use Rattle.geometry.specs.declared.point.Point3D.{Point3D}
 use Rattle.tolerance.specs.declared.Tolerance.{Tolerance}
 use Rattle.geometry.specs.Point.{distanceOf}
@@ -25,7 +25,7 @@ edgeStep confusion p y q = pick (maxOf confusion (bits 0x3E7A_D7F2_9ABC_AF48) <?
 
 -- "If the last point lies nearer the start than 0.1 of the stride it is removed first."
 abbrev pub nearStart : Point3D → Point3D → Float → Bool
-nearStart start p h = distanceOf p start <? bits 0x3FB9_9999_9999_999A ⊗ h
+nearStart start p h = distanceOf p start <? tenth ⊗ h
 
 -- "Closing is tested on inner steps only, when the half already holds 3 points."
 unfoldable pub cameRound : Float → Point3D → ℕ → Point3D → Point3D → Bool
@@ -42,6 +42,6 @@ afterStride confusion start held p (stride.Inner y q ty curvature h) = innerStep
 afterStride confusion start held p (stride.Edge y q) = edgeStep confusion p y q
 afterStride confusion start held p stride.Ended = Ended
 
--- one turn of the Rust's `for _ in 0..2000`
+-- what one turn of the Rust's `for _ in 0..2000` comes to; the points are kept in `halfStep`
 unfoldable pub stepOf : Patch → Patch → Tolerance → Float → Point3D → ℕ → Walker → Float → Stepped
 stepOf a b tol dir start held w h = afterStride (tol .confusion) start held (w .p) (strideOf a b tol dir w h)

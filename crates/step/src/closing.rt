@@ -1,5 +1,7 @@
 // When a half has come round, and how long a stride may be.
 use geometry::Point3D;
+use stride::CHORD_DEVIATION;
+use stride::H_MAX;
 ghost use mathlib.Core.Path.{_≡_};
 ghost use Rattle.step.specs.Closing.{alongOf, closesOf, firstStride, nextStride};
 
@@ -19,7 +21,7 @@ pub(crate) fn closes(confusion: f64, start: Point3D, p: Point3D, q: Point3D) -> 
     if 0.0 <= s {
         if s <= 1.0 {
             let nearest = p.add(q.sub(p).scale(s));
-            nearest.distance(start) <= 4.0 * (1000.0 * confusion) + 10.0 * confusion
+            nearest.distance(start) <= 4.0 * (CHORD_DEVIATION * confusion) + 10.0 * confusion
         } else {
             false
         }
@@ -32,18 +34,18 @@ pub(crate) fn closes(confusion: f64, start: Point3D, p: Point3D, q: Point3D) -> 
 pub fn first_stride(confusion: f64) -> f64
     ensures { λ r. ⌜ r ≡ firstStride confusion ⌝ }
 {
-    number::min(sqrt::sqrt(8.0 * (1000.0 * confusion)), 0.1)
+    number::min(sqrt::sqrt(8.0 * (CHORD_DEVIATION * confusion)), H_MAX)
 }
 
-// The length to try after a stride of length h: twice that, at most 0.1, and short enough for the curvature. Where that does not bend the
-// line, no root is taken.
+// The length to try after a stride of length h: twice that, at most 0.1, and short enough for the curvature. No root is taken where the
+// curvature's bound, whose square is `square`, lies above the other two.
 pub(crate) fn next_stride(confusion: f64, h: f64, curvature: f64) -> f64
     ensures { λ r. ⌜ r ≡ nextStride confusion h curvature ⌝ }
 {
-    let bend = 8.0 * (1000.0 * confusion) / number::max(curvature, number::MIN_POSITIVE);
-    let longest = number::min(2.0 * h, 0.1);
-    if sqrt::at_most(bend, longest) {
-        number::min(longest, sqrt::sqrt(bend))
+    let square = 8.0 * (CHORD_DEVIATION * confusion) / number::max(curvature, number::MIN_POSITIVE);
+    let longest = number::min(2.0 * h, H_MAX);
+    if sqrt::at_most(square, longest) {
+        number::min(longest, sqrt::sqrt(square))
     } else {
         longest
     }

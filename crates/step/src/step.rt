@@ -31,7 +31,7 @@ fn edge_step(confusion: f64, p: Point3D, y: Parameters, q: Point3D) -> Stepped
     }
 }
 
-// Whether the half, which holds `held` points, has come round: it is not asked before the third.
+// Whether the half, which holds `held` points, has come round: it is not asked before it holds 3.
 fn came_round(confusion: f64, start: Point3D, held: usize, p: Point3D, q: Point3D) -> bool
     ensures { λ r. ⌜ r ≡ cameRound confusion start held p q ⌝ }
 {

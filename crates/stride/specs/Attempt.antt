@@ -4,7 +4,7 @@ use Prim.Native.Nat.{ℕ}
 use lib.Ieee.{Float}
 use Rattle.loops.specs.Loop.{pick}
 use Rattle.number.specs.Operators.{bits, _⊗_, _⊘_, _<?_, _≤?_}
-use Rattle.number.specs.Helpers.{minPositive, maxOf}
+use Rattle.number.specs.Helpers.{two, minPositive, maxOf}
 use Rattle.fdlibm.specs.Arctangent.{atan2Of}
 use Rattle.vector.specs.declared.Vector3D.{Vector3D}
 use Rattle.geometry.specs.declared.point.Point3D.{Point3D}
@@ -27,10 +27,6 @@ use Rattle.stride.specs.declared.attempt.Walker.{Walker}
 use Rattle.stride.specs.declared.attempt.Tried.{Tried}
 use Rattle.stride.specs.declared.attempt.Tried.the-variants.{Inner, Edge, Nothing}
 
--- the 2 of `2.0 * h`
-abbrev pub two : Float
-two = bits 0x4000_0000_0000_0000
-
 -- FREE_TURN, 0.05
 abbrev pub freeTurn : Float
 freeTurn = bits 0x3FA9_9999_9999_999A
@@ -50,12 +46,12 @@ keptOf chord h = chord ≤? two ⊗ h && chord ≤? longestChord
 -- ---- the Rust's "The step leaves a parameter domain: end on its edge."
 
 -- (q - p).dot(t) >= 0.0, and the chord
-unfoldable pub onEdge : Walker → Float → Point3D → Bool
-onEdge w h q = bits 0 ≤? dotOf (fromOf q (w .p)) (w .t) && keptOf (distanceOf q (w .p)) h
+unfoldable pub landingKept : Walker → Float → Point3D → Bool
+landingKept w h q = bits 0 ≤? dotOf (fromOf q (w .p)) (w .t) && keptOf (distanceOf q (w .p)) h
 
 -- an edge point where `land` found one that may be kept
 abbrev pub afterLanding : Patch → Walker → Float → Met → Tried
-afterLanding a w h (met.At y) = pick (onEdge w h (pointA a y)) (Edge y (pointA a y)) Nothing
+afterLanding a w h (met.At y) = pick (landingKept w h (pointA a y)) (Edge y (pointA a y)) Nothing
 afterLanding a w h met.Nothing = Nothing
 
 -- land(a, b, guess, pin, bound, tol), and what follows

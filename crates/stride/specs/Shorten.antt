@@ -44,6 +44,6 @@ strideFrom a b tol dir w i h = searched (strideStep a b tol dir w) noStride i mo
 unfoldable pub halvingOf : Patch → Patch → Tolerance → Float → Walker → Float → Stride
 halvingOf a b tol dir w h = strideFrom a b tol dir w 0 h
 
--- the same for any numbers; the walk's tolerance is fit, and its strides are at most 0.1
+-- the same for any numbers: no stride under an unfit tolerance or from a length not at most 0.1; the walk asks for neither
 unfoldable pub strideOf : Patch → Patch → Tolerance → Float → Walker → Float → Stride
 strideOf a b tol dir w h = pick (toleranceFit tol) (pick (h ≤? longestStride) (halvingOf a b tol dir w h) stride.Ended) stride.Ended

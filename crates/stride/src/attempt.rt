@@ -13,7 +13,15 @@ use patch::Patch;
 use tolerance::Tolerance;
 use vector::Vector3D;
 ghost use mathlib.Core.Path.{_≡_};
-ghost use Rattle.stride.specs.Attempt.{keptOf, onEdge, turnOf, smoothOf, acceptedOf, onwardOf, innerOf, landedOf, attemptOf};
+ghost use Rattle.stride.specs.Attempt.{keptOf, landingKept, turnOf, smoothOf, acceptedOf, onwardOf, innerOf, landedOf, attemptOf};
+
+// Chord deviation allowed per step, in multiples of confusion.
+pub const CHORD_DEVIATION: f64 = 1000.0;
+
+// How far a step may turn freely, and how much it may turn beside the last one's curvature.
+const FREE_TURN: f64 = 0.05;
+
+const CURVATURE_GROWTH: f64 = 4.0;
 
 // Where a half stands: the parameters and A's point of the last point kept, the direction in which it goes on, and the curvature of the
 // last step (0 before the first).
@@ -24,7 +32,8 @@ pub struct Walker {
     pub curvature: f64,
 }
 
-// What a stride leads to: a point within the windows with the direction and the curvature there, a point on a window's edge, or nothing.
+// What a stride leads to: a point within the windows with the direction there and the curvature of the step, a point on a window's edge, or
+// nothing.
 pub enum Tried {
     Inner(Parameters, Point3D, Vector3D, f64),
     Edge(Parameters, Point3D),
@@ -42,9 +51,9 @@ fn kept(chord: f64, h: f64) -> bool
     }
 }
 
-// A landing goes forward, and its chord is kept.
-fn on_edge(w: Walker, h: f64, q: Point3D) -> bool
-    ensures { λ r. ⌜ r ≡ onEdge w h q ⌝ }
+// Whether a landing does not go back, and its chord is short enough.
+fn landing_kept(w: Walker, h: f64, q: Point3D) -> bool
+    ensures { λ r. ⌜ r ≡ landingKept w h q ⌝ }
 {
     let p = w.p;
     let t = w.t;
@@ -74,7 +83,7 @@ fn landed(
     };
     let surface = a.surface;
     let q = surface.eval_point(y.u1, y.v1);
-    if on_edge(w, h, q) {
+    if landing_kept(w, h, q) {
         Tried::Edge(y, q)
     } else {
         Tried::Nothing
@@ -93,13 +102,14 @@ fn turn(t: Vector3D, ty: Vector3D) -> f64
 fn smooth(confusion: f64, curvature: f64, chord: f64, turned: f64) -> bool
     ensures { λ r. ⌜ r ≡ smoothOf confusion curvature chord turned ⌝ }
 {
-    if chord * turned <= 32.0 * (1000.0 * confusion) {
-        turned <= number::max(0.05, 4.0 * curvature * chord)
+    if chord * turned <= 32.0 * (CHORD_DEVIATION * confusion) {
+        turned <= number::max(FREE_TURN, CURVATURE_GROWTH * curvature * chord)
     } else {
         false
     }
 }
 
+// Whether a step is taken: the direction turns by less than a right angle, the chord is kept, the turn is smooth.
 fn accepted(confusion: f64, w: Walker, h: f64, ty: Vector3D, chord: f64, turned: f64) -> bool
     ensures { λ r. ⌜ r ≡ acceptedOf confusion w h ty chord turned ⌝ }
 {

@@ -3,6 +3,7 @@
 pub mod attempt;
 pub mod shorten;
 
-pub use attempt::Tried;
+pub use attempt::CHORD_DEVIATION;
 pub use attempt::Walker;
+pub use shorten::H_MAX;
 pub use shorten::Stride;

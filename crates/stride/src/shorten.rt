@@ -13,6 +13,9 @@ ghost use Rattle.number.specs.Operators.{_≤?_};
 ghost use Rattle.tolerance.specs.Tolerance.{toleranceFit};
 ghost use Rattle.stride.specs.Shorten.{longestStride, halvingOf, strideOf};
 
+// The longest stride.
+pub const H_MAX: f64 = 0.1;
+
 // What the walk does next: a step to an inner point, with the direction, the curvature and the stride's length; a landing on a window's
 // edge; or no step.
 pub enum Stride {
@@ -49,7 +52,7 @@ pub fn shorten(a: Patch, b: Patch, tol: Tolerance, dir: f64, w: Walker, h: f64) 
     ensures { λ r. ⌜ r ≡ strideOf a b tol dir w h ⌝ }
 {
     if tol.is_fit() {
-        if h <= 0.1 {
+        if h <= H_MAX {
             return halving(a, b, tol, dir, w, h);
         }
     }

@@ -17,6 +17,6 @@ defaultTolerance = record {
 abbrev pub leastConfusion : Float
 leastConfusion = bits 0x3D70_0000_0000_0000
 
--- 5: "confusion not within 2^-40 to 1, or angular not within 0 to 1 (NaN fails both). The parametric tolerance isn't read."
+-- what 5 lets through: "confusion not within 2^-40 to 1, or angular not within 0 to 1 (NaN fails both). The parametric tolerance isn't read."
 unfoldable pub toleranceFit : Tolerance → Bool
 toleranceFit t = leastConfusion ≤? t .confusion && (t .confusion ≤? one && (bits 0 ≤? t .angular && t .angular ≤? one))

@@ -1,19 +1,16 @@
 -- Both halves in one list: what the parts of a slice leave when they come back, and the points turned round. Assumes nothing.
 use mathlib.Core.Path.{_≡_, refl, ap, sym, _∙_}
-use mathlib.Core.Bool.{Bool, true, false}
+use mathlib.Core.Bool.{true, false}
 use mathlib.Core.List.{List, [], _∷_, _++_, append-nil, append-assoc, reverse, reverse-cons, reverse-append}
 use Prim.Native.Nat.{ℕ, zero, suc, _+_, _*_, _-_, _≤_}
 use native.Mathlib.Omega.{arith}
 use native.Mathlib.Numerals.{add-one}
-use borrow.Author.Tests.{leb-true, leb-false, le-ltb, lt-ltb}
-use lib.Dec.{leb, ltb}
 use lib.Ieee.{Float}
 use lib.ListN.{length, take, drop, replicate, length-append, length-drop, length-reverse, drop-of-length-le, take-append-drop}
 use lib.Seq.{take-at, drop-at, length-take-le, take-append-le, drop-append-le, take-append-add, take-length, take-add}
 use Rattle.loops.specs.Loop.{pick}
 use Rattle.groups.specs.Row.{numbersOf}
 use Rattle.groups.specs.Row as row
-use Rattle.refusal.specs.declared.Refusal.the-variants as refusal
 use Rattle.groups.specs.declared.row.Row.{Row}
 use Rattle.vector.specs.declared.Vector3D.{Vector3D}
 use Rattle.tolerance.specs.declared.Tolerance.{Tolerance}
@@ -22,8 +19,7 @@ use Rattle.patch.specs.declared.patch.Parameters.{Parameters}
 use Rattle.walk.specs.Lent.{placed, turnedOf, joinedOf, ownRow, rowsOf}
 use Rattle.walk.specs.Half.{halfOf}
 use Rattle.walk.specs.Line as line
-use Rattle.walk.specs.Trace.{Outcome, room, refusedWalk, finishedOf, settled}
-use Rattle.walk.specs.declared.answer.Traced.the-variants.{Line, Refused}
+use Rattle.walk.specs.Trace.{room, finishedOf, settled}
 use Rattle.walk.proofs.Lists.{length-over}
 use Rattle.walk.proofs.Halves.{rows-append}
 use Rattle.walk.proofs.Turning.{length-turned}
@@ -189,23 +185,7 @@ module _ (f b : ℕ) (l : List Float) (h : 7 * (1 + f + b) ≤ length l) where
 pub settled-is : (a : Patch) (n count : ℕ) (l : List Float) (found : line.Line) → count ≡ length (found .points) → take (7 * count) l ≡ rowsOf a (found .points)
     → length l ≡ room n → finishedOf count (found .start) (found .closing) l ≡ settled a n found
 unfolding finishedOf settled
-settled-is a n count l found ec ew el = go (leb 4 (length (found .points))) refl
-  where
-    full : Outcome
-    full = record {
-      answer = Line (length (found .points)) (found .start) (found .closing);
-      buffer = rowsOf a (found .points) ++ replicate (room n - 7 * length (found .points)) row.zero;
-    }
-
-    empty : Outcome
-    empty = refusedWalk refusal.TooShort n
-
-    go : (t : Bool) → leb 4 (length (found .points)) ≡ t
-        → pick (ltb count 4) (record { answer = Refused refusal.TooShort; buffer = replicate (length l) row.zero })
-        (record { answer = Line count (found .start) (found .closing); buffer = take (7 * count) l ++ replicate (length l - 7 * count) row.zero })
-        ≡ pick t full empty
-    go true e = rw (le-ltb count 4 (let k = leb-true 4 (length (found .points)) e in omega (arith, k, ec)), ew, el, ec)
-    go false e = rw (lt-ltb count 4 (let k = leb-false 4 (length (found .points)) e in omega (arith, k, ec)), el)
+settled-is a n count l found ec ew el = rw (ew, el, ec)
 
 -- ---- the line: what the start and the halves leave in the list
 
@@ -242,13 +222,13 @@ both-front a x f b l B fw bw h wf lB eb wb =
     ∙ sym (rows-append a bw (x ∷ reverse fw))
 
 -- which halves a line has
-round-line : (a b : Patch) (tol : Tolerance) (x : Parameters) (t : Vector3D) (n : ℕ) → halfOf a b tol line.ahead x t n .closed ≡ true
-    → line.lineOf a b tol x t n ≡ line.roundLine x (halfOf a b tol line.ahead x t n)
+round-line : (a b : Patch) (tol : Tolerance) (x : Parameters) (t : Vector3D) (n : ℕ) → halfOf a b tol line.forward x t n .closed ≡ true
+    → line.lineOf a b tol x t n ≡ line.closedForward x (halfOf a b tol line.forward x t n)
 unfolding line.lineOf
 round-line a b tol x t n e = rw e
 
-both-lines : (a b : Patch) (tol : Tolerance) (x : Parameters) (t : Vector3D) (n : ℕ) → halfOf a b tol line.ahead x t n .closed ≡ false
-    → line.lineOf a b tol x t n ≡ line.bothHalves x (halfOf a b tol line.ahead x t n) (halfOf a b tol line.back x t n)
+both-lines : (a b : Patch) (tol : Tolerance) (x : Parameters) (t : Vector3D) (n : ℕ) → halfOf a b tol line.forward x t n .closed ≡ false
+    → line.lineOf a b tol x t n ≡ line.bothHalves x (halfOf a b tol line.forward x t n) (halfOf a b tol line.backward x t n)
 unfolding line.lineOf
 both-lines a b tol x t n e = rw e
 
@@ -286,10 +266,10 @@ module _ (a b : Patch) (tol : Tolerance) (x : Parameters) (t : Vector3D) (n : �
     pub len₃ : (B : List Float) → length B ≡ length (take (length l₂ - 7 * (1 + f)) (drop (7 * (1 + f)) l₂)) → length (backFrom (7 * (1 + f)) l₂ B) ≡ room n
     len₃ B lenB = length-from (7 * (1 + f)) l₂ B fits₂ (lenB ∙ part₂) ∙ len₂
 
-    module _ (er : r ≡ ownRow a x) (ef : f ≡ length (halfOf a b tol line.ahead x t n .points))
-        (wf : take (7 * f) F ≡ rowsOf a (reverse (halfOf a b tol line.ahead x t n .points))) where
+    module _ (er : r ≡ ownRow a x) (ef : f ≡ length (halfOf a b tol line.forward x t n .points))
+        (wf : take (7 * f) F ≡ rowsOf a (reverse (halfOf a b tol line.forward x t n .points))) where
       abbrev fw : List Parameters
-      fw = halfOf a b tol line.ahead x t n .points
+      fw = halfOf a b tol line.forward x t n .points
 
       front₂ : take (7 * (1 + f)) l₂ ≡ rowsOf a (x ∷ reverse fw)
       front₂ = forward-front a x f l₀ l₁ F fw r er (omega (arith, len₀)) e₁ lenF' ef wf (let e = lenF' in let k = len₁ in omega (arith, e, k, few))
@@ -298,16 +278,16 @@ module _ (a b : Patch) (tol : Tolerance) (x : Parameters) (t : Vector3D) (n : �
       size₂ = let e = length-reverse fw in omega (arith, e, ef)
 
       -- the line that closes forward
-      pub settled-round : halfOf a b tol line.ahead x t n .closed ≡ true → finishedOf (1 + f) 0 1 l₂ ≡ settled a n (line.lineOf a b tol x t n)
+      pub settled-round : halfOf a b tol line.forward x t n .closed ≡ true → finishedOf (1 + f) 0 1 l₂ ≡ settled a n (line.lineOf a b tol x t n)
       settled-round ec =
-          settled-is a n (1 + f) l₂ (line.roundLine x (halfOf a b tol line.ahead x t n)) size₂ front₂ len₂
+          settled-is a n (1 + f) l₂ (line.closedForward x (halfOf a b tol line.forward x t n)) size₂ front₂ len₂
           ∙ ap (settled a n) (sym (round-line a b tol x t n ec))
 
       module _ (B l₄ : List Float) (k : ℕ) (lenB : length B ≡ length (take (length l₂ - 7 * (1 + f)) (drop (7 * (1 + f)) l₂))) (fewB : k ≤ n)
-          (ek : k ≡ length (halfOf a b tol line.back x t n .points)) (wk : take (7 * k) B ≡ rowsOf a (reverse (halfOf a b tol line.back x t n .points)))
+          (ek : k ≡ length (halfOf a b tol line.backward x t n .points)) (wk : take (7 * k) B ≡ rowsOf a (reverse (halfOf a b tol line.backward x t n .points)))
           (e₄ : l₄ ≡ joinedOf f k (backFrom (7 * (1 + f)) l₂ B)) (len₄ : length l₄ ≡ length (backFrom (7 * (1 + f)) l₂ B)) where
         abbrev bw : List Parameters
-        bw = halfOf a b tol line.back x t n .points
+        bw = halfOf a b tol line.backward x t n .points
 
         lenB' : length B ≡ length l₂ - 7 * (1 + f)
         lenB' = lenB ∙ part₂
@@ -319,10 +299,10 @@ module _ (a b : Patch) (tol : Tolerance) (x : Parameters) (t : Vector3D) (n : �
         front₄ = ap (take (7 * (1 + f + k))) e₄ ∙ both-front a x f k l₂ B fw bw (let e = len₂ in omega (arith, e, few, fewB)) front₂ lenB' ek wk
 
         -- the line that does not: open, or closed backward
-        pub settled-both : (closing : ℕ) → halfOf a b tol line.ahead x t n .closed ≡ false → closing ≡ pick (halfOf a b tol line.back x t n .closed) 2 0
+        pub settled-both : (closing : ℕ) → halfOf a b tol line.forward x t n .closed ≡ false → closing ≡ pick (halfOf a b tol line.backward x t n .closed) 2 0
             → finishedOf (1 + f + k) k closing l₄ ≡ settled a n (line.lineOf a b tol x t n)
         settled-both closing ec em =
             ap (λ (s : ℕ). finishedOf (1 + f + k) s closing l₄) ek
             ∙ ap (λ (m : ℕ). finishedOf (1 + f + k) (length bw) m l₄) em
-            ∙ settled-is a n (1 + f + k) l₄ (line.bothHalves x (halfOf a b tol line.ahead x t n) (halfOf a b tol line.back x t n)) size₄ front₄ (len₄ ∙ len₃ B lenB)
+            ∙ settled-is a n (1 + f + k) l₄ (line.bothHalves x (halfOf a b tol line.forward x t n) (halfOf a b tol line.backward x t n)) size₄ front₄ (len₄ ∙ len₃ B lenB)
             ∙ ap (settled a n) (sym (both-lines a b tol x t n ec))

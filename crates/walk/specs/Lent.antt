@@ -7,7 +7,7 @@ use Rattle.groups.specs.Groups.{width}
 use Rattle.groups.specs.declared.row.Row.{Row}
 use Rattle.groups.specs.Row.{numbersOf}
 use Rattle.geometry.specs.declared.point.Point3D.{Point3D}
-use Rattle.analytic.specs.Surface.{evalPoint}
+use Rattle.patch.specs.Located.{pointA}
 use Rattle.patch.specs.declared.patch.Patch.{Patch}
 use Rattle.patch.specs.declared.patch.Parameters.{Parameters}
 
@@ -30,7 +30,7 @@ rowFor q x = record { x = q .x; y = q .y; z = q .z; u1 = x .u1; v1 = x .v1; u2 =
 
 -- the numbers of the point with parameters x: A's own point, then the parameters
 abbrev pub ownRow : Patch → Parameters → Row
-ownRow a x = rowFor (evalPoint (a .surface) (x .u1) (x .v1)) x
+ownRow a x = rowFor (pointA a x) x
 
 -- the numbers of points one behind the other
 unfoldable pub rowsOf : Patch → List Parameters → List Float

@@ -1,10 +1,10 @@
 -- The line that both halves make. Definitions only.
 use mathlib.Core.List.{List, _∷_, _++_}
-use Prim.Native.Nat.{ℕ, _+_}
+use Prim.Native.Nat.{ℕ}
 use lib.Ieee.{Float, neg}
 use lib.ListN.{length}
 use Rattle.loops.specs.Loop.{pick}
-use Rattle.number.specs.Operators.{bits}
+use Rattle.number.specs.Helpers.{one}
 use Rattle.vector.specs.declared.Vector3D.{Vector3D}
 use Rattle.tolerance.specs.declared.Tolerance.{Tolerance}
 use Rattle.patch.specs.declared.patch.Patch.{Patch}
@@ -18,16 +18,16 @@ pub record Line : Type 0 where
   pub closing : ℕ
 
 -- the direction of the forward half: the Rust's `1.0`
-abbrev pub ahead : Float
-ahead = bits 0x3FF0_0000_0000_0000
+abbrev pub forward : Float
+forward = one
 
 -- and of the backward half: `-1.0`
-abbrev pub back : Float
-back = neg ahead
+abbrev pub backward : Float
+backward = neg forward
 
 -- "0 open, 1 closed forward, 2 closed backward": a half closed forward is the whole line
-abbrev pub roundLine : Parameters → Walked → Line
-roundLine x f = record { points = x ∷ inOrder f; start = 0; closing = 1 }
+abbrev pub closedForward : Parameters → Walked → Line
+closedForward x f = record { points = x ∷ inOrder f; start = 0; closing = 1 }
 
 -- the backward half last point first, the start, the forward half
 abbrev pub bothHalves : Parameters → Walked → Walked → Line
@@ -36,5 +36,5 @@ bothHalves x f b = record { points = b .points ++ (x ∷ inOrder f); start = len
 -- "runs forward, then backward unless closed"
 unfoldable pub lineOf : Patch → Patch → Tolerance → Parameters → Vector3D → ℕ → Line
 lineOf a b tol x t n =
-    pick (halfOf a b tol ahead x t n .closed) (roundLine x (halfOf a b tol ahead x t n))
-    (bothHalves x (halfOf a b tol ahead x t n) (halfOf a b tol back x t n))
+    pick (halfOf a b tol forward x t n .closed) (closedForward x (halfOf a b tol forward x t n))
+    (bothHalves x (halfOf a b tol forward x t n) (halfOf a b tol backward x t n))

@@ -2,7 +2,7 @@
 use mathlib.Core.Bool.{Bool, _&&_}
 use mathlib.Core.List.{List, _++_}
 use Prim.Native.Nat.{ℕ, _+_, _*_, _-_}
-use lib.Dec.{leb, ltb}
+use lib.Dec.{leb}
 use lib.Ieee.{Float}
 use lib.Ieee.Scale.{finite}
 use lib.ListN.{length, take, drop, replicate}
@@ -94,21 +94,19 @@ room n = width * (2 * n + 1)
 abbrev pub refusedWalk : Refusal → ℕ → Outcome
 refusedWalk r n = record { answer = Refused r; buffer = replicate (room n) zero }
 
--- what the last part of the walk makes of a list that begins with the line's points
-unfoldable pub finishedOf : ℕ → ℕ → ℕ → List Float → Outcome
-finishedOf count start closing l =
-    pick (ltb count 4) (record { answer = Refused refusal.TooShort; buffer = replicate (length l) zero })
-    (record { answer = Line count start closing; buffer = take (width * count) l ++ replicate (length l - width * count) zero })
+-- 11: "fewer than 4 points"; "Success puts seven numbers a point first"; "zeros follow up to 7(2n+1)": here up to `size`
+abbrev pub outcomeOf : ℕ → ℕ → ℕ → List Float → ℕ → Outcome
+outcomeOf count start closing rows size =
+    pick (leb 4 count) (record { answer = Line count start closing; buffer = rows ++ replicate (size - width * count) zero })
+    (record { answer = Refused refusal.TooShort; buffer = replicate size zero })
 
--- 11: "fewer than 4 points"; "Success puts seven numbers a point first"; "zeros follow up to 7(2n+1)"
+-- of a list that begins with the line's points
+unfoldable pub finishedOf : ℕ → ℕ → ℕ → List Float → Outcome
+finishedOf count start closing l = outcomeOf count start closing (take (width * count) l) (length l)
+
+-- of a line's points
 unfoldable pub settled : Patch → ℕ → line.Line → Outcome
-settled a n found =
-    pick (leb 4 (length (found .points)))
-    (record {
-      answer = Line (length (found .points)) (found .start) (found .closing);
-      buffer = rowsOf a (found .points) ++ replicate (room n - width * length (found .points)) zero;
-    })
-    (refusedWalk refusal.TooShort n)
+settled a n found = outcomeOf (length (found .points)) (found .start) (found .closing) (rowsOf a (found .points)) (room n)
 
 -- 10: "no direction at the meeting"
 abbrev pub afterDirection : Patch → Patch → Tolerance → ℕ → Parameters → Direction → Outcome

@@ -11,7 +11,6 @@ use stride::Walker;
 use tolerance::Tolerance;
 use vector::Vector3D;
 ghost use mathlib.Core.Path.{_≡_};
-ghost use mathlib.Core.List.{List};
 ghost use Prim.Native.Nat.{_*_, _-_, _≤_};
 ghost use lib.ListN.{length, take};
 ghost use Rattle.loops.specs.Loop.{pick};

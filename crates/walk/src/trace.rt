@@ -22,6 +22,7 @@ const LEAST_CAP: usize = 2;
 
 const GREATEST_CAP: usize = 2000;
 
+// What refusal 6 lets through.
 fn guess_finite(x: Parameters) -> bool
     ensures { λ r. ⌜ r ≡ guessFinite x ⌝ }
 {

@@ -1,6 +1,6 @@
 // From geomcore at a20e012915, `src/surface_math/analytic.rs`, licensed MIT OR Apache-2.0. Carried over unchanged below these lines, but for:
-// `*_parameters` are left out, each place marked; `x.sin()` and `x.cos()` are `sin(x)` and `cos(x)`, the proved functions, since Rust
-// leaves the precision of its own open. Each changed line says so.
+// `*_parameters` are left out, each place marked; `x.sin()` and `x.cos()` are `sin(x)` and `cos(x)` of `ours.rs`, a port of the proved functions, since
+// Rust leaves the precision of its own open. Each changed line says so.
 //! Evaluation and parameter-inversion formulas for elementary analytic
 //! surfaces (plane, cylinder, cone, sphere, torus).
 //!

@@ -1,5 +1,6 @@
 -- `answer::put_line` meets its contract: each way out has its tests, and what it calls its own. Assumes nothing.
 use borrow.Author.Needs.{needs}
+use Rattle.refusal.proofs.Laws.{number-not-0}
 use Rattle.answer.specs.Answer.{answerLine}
 use Rattle.answer.proofs.put_line.Statement.{statement}
 use Rattle.answer.proofs.put_line.Tie as tie
@@ -25,7 +26,7 @@ returns c = rw (c .before .before .before .answer .given .1) (c .trace-line .ens
 
 returns-2 : tie.Need-returns-2
 unfolding answerLine
-returns-2 c = rw (c .before .before .before .before .answer2 .given .1, ← c .before .before .number .ensures) (c .refused-line .ensures)
+returns-2 c = rw (c .before .before .before .before .answer2 .given .1, number-not-0, ← c .before .before .number .ensures) (c .refused-line .ensures)
 
 pub put-line-spec : {M : Type 1} → statement M
 put-line-spec =

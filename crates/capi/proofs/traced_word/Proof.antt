@@ -1,5 +1,6 @@
 -- `capi::traced_word` meets its contract: each way out has its tests, and what it calls its own. Assumes nothing.
 use borrow.Author.Needs.{needs}
+use Rattle.refusal.proofs.Laws.{number-not-0}
 use Rattle.capi.specs.Trace.{tracedWord}
 use Rattle.capi.proofs.traced_word.Statement.{statement}
 use Rattle.capi.proofs.traced_word.Tie as tie
@@ -25,7 +26,7 @@ returns c = rw (c .before .before .before .answer .given .1, c .wrapping-add-u64
 
 returns-2 : tie.Need-returns-2
 unfolding tracedWord
-returns-2 c = rw (c .before .before .answer2 .given .1) (c .number .ensures)
+returns-2 c = rw (c .before .before .answer2 .given .1, number-not-0) (c .number .ensures)
 
 pub traced-word-spec : {M : Type 1} → statement M
 traced-word-spec =

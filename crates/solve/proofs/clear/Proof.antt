@@ -6,12 +6,12 @@ use borrow.Author.Needs.{needs}
 use native.Mathlib.Omega.{arith}
 use Rattle.loops.specs.Loop.{ranged}
 use Rattle.loops.proofs.Loop.{ranged-again, ranged-done}
-use Rattle.solve.specs.Solve.{lessAt, lessOf}
+use Rattle.solve.specs.Solve.{entryReduced, rowReduced}
 use Rattle.solve.proofs.clear.Statement.{statement}
 use Rattle.solve.proofs.clear.Tie as tie
 
 abbrev Inv-loop : tie.InvT-loop
-Inv-loop row₀ pivot n factor col k₀ row k = (ranged (lessAt pivot factor) k n row ≡ lessOf n row₀ pivot factor col) × ((k ≤ n) × (length row ≡ length row₀))
+Inv-loop row₀ pivot n factor col k₀ row k = (ranged (entryReduced pivot factor) k n row ≡ rowReduced n row₀ pivot factor col) × ((k ≤ n) × (length row ≡ length row₀))
 
 abbrev μ-loop : tie.MeasureT-loop
 μ-loop row₀ pivot n factor col k₀ row k = n - k

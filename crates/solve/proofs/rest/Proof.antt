@@ -5,12 +5,12 @@ use borrow.Author.Needs.{needs}
 use native.Mathlib.Omega.{arith}
 use Rattle.loops.specs.Loop.{ranged}
 use Rattle.loops.proofs.Loop.{ranged-again, ranged-done}
-use Rattle.solve.specs.Solve.{lessProduct, restOf}
+use Rattle.solve.specs.Solve.{lessProduct, substituted}
 use Rattle.solve.proofs.rest.Statement.{statement}
 use Rattle.solve.proofs.rest.Tie as tie
 
 abbrev Inv-loop : tie.InvT-loop
-Inv-loop row x n from acc acc₀ k₀ acc' k = (ranged (lessProduct row x) k n acc' ≡ restOf n row x from acc) × (k ≤ n)
+Inv-loop row x n from acc acc₀ k₀ acc' k = (ranged (lessProduct row x) k n acc' ≡ substituted n row x from acc) × (k ≤ n)
 
 abbrev μ-loop : tie.MeasureT-loop
 μ-loop row x n from acc acc₀ k₀ acc' k = n - k

@@ -6,12 +6,12 @@ use borrow.Author.Needs.{needs}
 use native.Mathlib.Omega.{arith}
 use Rattle.loops.specs.Loop.{ranged}
 use Rattle.loops.proofs.Loop.{ranged-again, ranged-done}
-use Rattle.solve.specs.Solve.{addRow, scaleOf}
+use Rattle.solve.specs.Solve.{addRow, sumOfMagnitudes}
 use Rattle.solve.proofs.scale3.Statement.{statement}
 use Rattle.solve.proofs.scale3.Tie as tie
 
 abbrev Inv-loop : tie.InvT-loop
-Inv-loop m sum₀ i₀ sum i = (ranged (addRow 3 m) i 3 sum ≡ scaleOf 3 m) × (i ≤ 3)
+Inv-loop m sum₀ i₀ sum i = (ranged (addRow 3 m) i 3 sum ≡ sumOfMagnitudes 3 m) × (i ≤ 3)
 
 abbrev μ-loop : tie.MeasureT-loop
 μ-loop m sum₀ i₀ sum i = 3 - i

@@ -6,12 +6,12 @@ use borrow.Author.Needs.{needs}
 use native.Mathlib.Omega.{arith}
 use Rattle.loops.specs.Loop.{ranged}
 use Rattle.loops.proofs.Loop.{ranged-again, ranged-done}
-use Rattle.solve.specs.Solve.{addRow, scaleOf}
+use Rattle.solve.specs.Solve.{addRow, sumOfMagnitudes}
 use Rattle.solve.proofs.scale4.Statement.{statement}
 use Rattle.solve.proofs.scale4.Tie as tie
 
 abbrev Inv-loop : tie.InvT-loop
-Inv-loop m sum₀ i₀ sum i = (ranged (addRow 4 m) i 4 sum ≡ scaleOf 4 m) × (i ≤ 4)
+Inv-loop m sum₀ i₀ sum i = (ranged (addRow 4 m) i 4 sum ≡ sumOfMagnitudes 4 m) × (i ≤ 4)
 
 abbrev μ-loop : tie.MeasureT-loop
 μ-loop m sum₀ i₀ sum i = 4 - i

@@ -4,7 +4,7 @@ use Prim.Native.Nat.{_-_, _≤_}
 use denote.Ref.{now}
 use Rattle.loops.specs.Loop.{ranged}
 use Rattle.loops.proofs.Loop.{ranged-again, ranged-done}
-use Rattle.boxes.specs.Trace.{coverAt, boundsOf}
+use Rattle.boxes.specs.Bounds.{coverAt, boundsOf}
 use Rattle.boxes.proofs.Turns.{cover-turn}
 use borrow.Author.Needs.{needs}
 use native.Mathlib.Omega.{arith}

@@ -1,6 +1,6 @@
 -- `boxes::pieces::point_box` meets its contract: each way out has its tests, and what it calls its own. Assumes nothing.
 use mathlib.Core.Path.{refl}
-use Rattle.boxes.specs.Trace.{pointBox}
+use Rattle.boxes.specs.Bounds.{pointBox}
 use Rattle.boxes.proofs.pieces.point_box.Statement.{statement}
 use Rattle.boxes.proofs.pieces.point_box.Tie as tie
 

@@ -19,7 +19,7 @@ returns c =
     let g = c .before .before .before .before .before .before .args in
     let fits-confusion = c .before .before .before .before .known .ensures in
     let e = c .before .before .trace .ensures in
-    (e .0, (e .1, λ count start closing line. traced-passes (g .a) (g .b) (g .tol) (g .guess) (g .cap) (now (g .buffer)) fits-confusion (e .0) (e .1) count start closing line))
+    (e .0, (e .1, traced-passes (g .a) (g .b) (g .tol) (g .guess) (g .cap) (now (g .buffer)) fits-confusion (e .0) (e .1)))
 
 pub trace-spec : {M : Type 1} → statement M
 trace-spec = tie.close (tie.spec known-requires trace-requires same-length returns)

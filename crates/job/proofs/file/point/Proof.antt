@@ -1,6 +1,6 @@
 -- `job::file::point` meets its contract: each way out has its tests, and what it calls its own. Assumes nothing.
 use borrow.Author.Needs.{needs}
-use Rattle.job.specs.File.{pointAt}
+use Rattle.job.specs.File.{originAt}
 use Rattle.job.proofs.file.point.Statement.{statement}
 use Rattle.job.proofs.file.point.Tie as tie
 
@@ -20,7 +20,7 @@ number-requires-3 : tie.Need-number-requires-3
 number-requires-3 c κs = search needs
 
 returns : tie.Need-returns
-unfolding pointAt
+unfolding originAt
 returns c = rw (c .number3 .ensures, c .before .number2 .ensures, c .before .before .number .ensures)
 
 pub point-spec : {M : Type 1} → statement M

@@ -3,7 +3,7 @@ use mathlib.Core.Path.{_∙_}
 use borrow.Author.Needs.{needs}
 use denote.Ref.{now}
 use Rattle.walk.proofs.Lines.{cleared}
-use borrow.Author.Tests.{le-ltb, lt-ltb}
+use borrow.Author.Tests.{le-leb, lt-leb}
 use Rattle.walk.specs.Trace.{finishedOf}
 use Rattle.walk.proofs.line.finish.Statement.{statement}
 use Rattle.walk.proofs.line.finish.Tie as tie
@@ -17,7 +17,7 @@ same-length c = search needs
 returns : tie.Need-returns
 unfolding finishedOf
 returns c =
-    let short = lt-ltb _ _ (c .before .before .before .before .if1 .taken) in
+    let short = lt-leb _ _ (c .before .before .before .before .if1 .taken) in
     (rw short, rw short (c .before .before .clear .ensures ∙ cleared (now (c .before .before .before .before .before .before .args .points))))
 
 mul-clear : tie.Need-mul-clear
@@ -32,7 +32,7 @@ same-length-2 c = search needs
 returns-2 : tie.Need-returns-2
 unfolding finishedOf
 returns-2 c =
-    let long = le-ltb _ _ (c .before .before .before .before .if1 .left) in
+    let long = le-leb _ _ (c .before .before .before .before .if1 .left) in
     (rw long, rw long (c .before .before .clear2 .ensures))
 
 pub finish-spec : {M : Type 1} → statement M
