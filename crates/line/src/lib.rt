@@ -1,6 +1,5 @@
 //! The line that answers a job, as ASCII bytes.
 ghost use mathlib.Core.Path.{_≡_};
-ghost use mathlib.Core.List.{_++_};
 ghost use Prim.Native.Nat.{_+_, _≤_, _<_};
 ghost use lib.ListN.{length, drop};
 ghost use Rattle.line.specs.Line.{digitOf, decimalOf, laid, written, traceLine, refusedLine};

@@ -3,12 +3,11 @@ use mathlib.Core.Path.{_≡_, refl, sym, subst}
 use mathlib.Core.Bool.{Bool, true, false, not, cond}
 use lib.Dec.{T}
 use lib.Ieee.{Float, nan, inf, fin, binary64, fits, isNan, ofBits, mul, toBits}
-use lib.Ieee.Scale.{finite}
 use lib.Ieee.Positive.{positive, positive-finite, between, mul-mono}
 use Rattle.number.specs.Operators.{bits, _⊗_, _<?_, _≤?_}
 use Rattle.number.specs.Units.{neg?}
 use Rattle.number.specs.Helpers.{maxOf, minPositive}
-use Rattle.number.proofs.Order.{lt→not-le, le-lt-through, le-numbers, le-self}
+use Rattle.number.proofs.Order.{lt→not-le, le-lt-through, le-self}
 use Rattle.sqrt.specs.Sqrt.{sqrtOf, roundRoot}
 use Rattle.sqrt.proofs.Laws.{sqrt-mono}
 

@@ -9,7 +9,7 @@ use lib.Pow.{pow-pos}
 use lib.Ieee.{Float, binary64, size, round, le, ofBits, fits}
 use lib.Ieee.Scale.{finite, grid, round-same, round-val}
 use lib.Ieee.Positive.{positive, positive-of-value, mul-mono}
-use Rattle.number.specs.Operators.{_⊗_, _<?_, _≤?_, bits}
+use Rattle.number.specs.Operators.{_⊗_, _<?_, _≤?_}
 use Rattle.number.specs.Helpers.{one, half, tenth}
 use Rattle.number.specs.Units.{unit, mag, neg?}
 use Rattle.number.proofs.Values.{Is, Held, is-number, whole, held, below-top, mul-is}

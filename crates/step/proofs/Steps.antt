@@ -36,7 +36,7 @@ use Rattle.stride.specs.declared.attempt.Tried.{Tried}
 use Rattle.stride.specs.declared.attempt.Tried.the-variants as tried
 use Rattle.stride.specs.declared.shorten.Stride.{Stride}
 use Rattle.stride.specs.declared.shorten.Stride.the-variants as stride
-use Rattle.stride.specs.Attempt.{keptOf, landingKept, afterLanding, landedOf, turnOf, smoothOf, acceptedOf, onwardOf, afterTangent, afterMeeting, innerOf, towards, predicted, attemptOf}
+use Rattle.stride.specs.Attempt.{keptOf, landingKept, afterLanding, landedOf, turnOf, nearCurve, smoothOf, acceptedOf, onwardOf, afterTangent, afterMeeting, innerOf, towards, predicted, attemptOf}
 use Rattle.stride.specs.Shorten.{longestStride, strideStep, afterAttempt, noStride, halvingOf, strideOf}
 use Rattle.step.specs.Closing.{closesOf, nextStride}
 use Rattle.step.specs.Step.{edgeStep, cameRound, innerStep, nearStart, afterStride, stepOf}
@@ -84,7 +84,7 @@ module _ (a b : Patch) (tol : Tolerance) (fit : T (toleranceFit tol)) (dir : Flo
   accepted-chord : (h : Float) (ty : Vector3D) (chord turned : Float) → T (acceptedOf (tol .confusion) w h ty chord turned) → T (chord ≤? longestChord)
   unfolding acceptedOf
   accepted-chord h ty chord turned t =
-      kept-chord chord h (and-l (keptOf chord h) (smoothOf (tol .confusion) (w .curvature) chord turned) (and-r (bits 0 <? dotOf ty (w .t)) (keptOf chord h && smoothOf (tol .confusion) (w .curvature) chord turned) t))
+      kept-chord chord h (and-l (keptOf chord h) (nearCurve (tol .confusion) chord turned && smoothOf (w .curvature) chord turned) (and-r (bits 0 <? dotOf ty (w .t)) (keptOf chord h && (nearCurve (tol .confusion) chord turned && smoothOf (w .curvature) chord turned)) t))
 
   onward-fine : (h : Float) (y : Parameters) (ty : Vector3D) → (T (fits binary64 (tol .confusion)) → Good a b (tol .confusion) y) → TriedFine a b tol w (onwardOf (tol .confusion) w h y (pointA a y) ty)
   unfolding onwardOf

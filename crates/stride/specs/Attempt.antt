@@ -64,14 +64,17 @@ landedOf a b tol w h guess pin bound = afterLanding a w h (landOf a b guess pin 
 unfoldable pub turnOf : Vector3D → Vector3D → Float
 turnOf t ty = atan2Of (magnitudeOf (crossOf t ty)) (dotOf t ty)
 
--- chord * turn <= 32.0 * chord_deviation, and turn <= FREE_TURN.max(CURVATURE_GROWTH * last_curvature * chord)
-unfoldable pub smoothOf : Float → Float → Float → Float → Bool
-smoothOf confusion curvature chord turned =
-    chord ⊗ turned ≤? bits 0x4040_0000_0000_0000 ⊗ chordDeviation confusion && turned ≤? maxOf freeTurn (curvatureGrowth ⊗ curvature ⊗ chord)
+-- chord * turn <= 32.0 * chord_deviation
+unfoldable pub nearCurve : Float → Float → Float → Bool
+nearCurve confusion chord turned = chord ⊗ turned ≤? bits 0x4040_0000_0000_0000 ⊗ chordDeviation confusion
+
+-- the Rust's `smooth`: turn <= FREE_TURN.max(CURVATURE_GROWTH * last_curvature * chord)
+unfoldable pub smoothOf : Float → Float → Float → Bool
+smoothOf curvature chord turned = turned ≤? maxOf freeTurn (curvatureGrowth ⊗ curvature ⊗ chord)
 
 -- ty.dot(t) > 0.0, the chord, and the turn
 unfoldable pub acceptedOf : Float → Walker → Float → Vector3D → Float → Float → Bool
-acceptedOf confusion w h ty chord turned = bits 0 <? dotOf ty (w .t) && (keptOf chord h && smoothOf confusion (w .curvature) chord turned)
+acceptedOf confusion w h ty chord turned = bits 0 <? dotOf ty (w .t) && (keptOf chord h && (nearCurve confusion chord turned && smoothOf (w .curvature) chord turned))
 
 -- the step with its curvature, turn / chord.max(f64::MIN_POSITIVE)
 abbrev pub onwardAt : Float → Walker → Float → Parameters → Point3D → Vector3D → Float → Float → Tried

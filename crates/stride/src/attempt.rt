@@ -13,7 +13,7 @@ use patch::Patch;
 use tolerance::Tolerance;
 use vector::Vector3D;
 ghost use mathlib.Core.Path.{_≡_};
-ghost use Rattle.stride.specs.Attempt.{keptOf, landingKept, turnOf, smoothOf, acceptedOf, onwardOf, innerOf, landedOf, attemptOf};
+ghost use Rattle.stride.specs.Attempt.{keptOf, landingKept, turnOf, nearCurve, smoothOf, acceptedOf, onwardOf, innerOf, landedOf, attemptOf};
 
 // Chord deviation allowed per step, in multiples of confusion.
 pub const CHORD_DEVIATION: f64 = 1000.0;
@@ -97,16 +97,18 @@ fn turn(t: Vector3D, ty: Vector3D) -> f64
     arctangent::atan2(t.cross(ty).magnitude(), t.dot(ty))
 }
 
-// Whether the step stays near the curve (its chord times its turn is at most 32 chord deviations) and on this branch (it turns by at
-// most 0.05, or 4 times the last curvature times the chord).
-fn smooth(confusion: f64, curvature: f64, chord: f64, turned: f64) -> bool
-    ensures { λ r. ⌜ r ≡ smoothOf confusion curvature chord turned ⌝ }
+// Whether the step stays near the curve: its chord times its turn is at most 32 chord deviations.
+fn near_curve(confusion: f64, chord: f64, turned: f64) -> bool
+    ensures { λ r. ⌜ r ≡ nearCurve confusion chord turned ⌝ }
 {
-    if chord * turned <= 32.0 * (CHORD_DEVIATION * confusion) {
-        turned <= number::max(FREE_TURN, CURVATURE_GROWTH * curvature * chord)
-    } else {
-        false
-    }
+    chord * turned <= 32.0 * (CHORD_DEVIATION * confusion)
+}
+
+// Whether the step stays on this branch: it turns by at most 0.05, or 4 times the last curvature times the chord.
+fn smooth(curvature: f64, chord: f64, turned: f64) -> bool
+    ensures { λ r. ⌜ r ≡ smoothOf curvature chord turned ⌝ }
+{
+    turned <= number::max(FREE_TURN, CURVATURE_GROWTH * curvature * chord)
 }
 
 // Whether a step is taken: the direction turns by less than a right angle, the chord is kept, the turn is smooth.
@@ -116,7 +118,11 @@ fn accepted(confusion: f64, w: Walker, h: f64, ty: Vector3D, chord: f64, turned:
     let t = w.t;
     if 0.0 < ty.dot(t) {
         if kept(chord, h) {
-            smooth(confusion, w.curvature, chord, turned)
+            if near_curve(confusion, chord, turned) {
+                smooth(w.curvature, chord, turned)
+            } else {
+                false
+            }
         } else {
             false
         }

@@ -3,7 +3,7 @@ use borrow.Author.Needs.{needs}
 use mathlib.Core.Path.{_≡_, sym, subst}
 use mathlib.Core.Bool.{Bool, true}
 use lib.Dec.{T}
-use Rattle.marching.proofs.Parallel.{Moderate, not-parallel}
+use Rattle.marching.proofs.Parallel.{not-parallel}
 use Rattle.marching.proofs.tangent.parallel.Statement.{statement}
 use Rattle.marching.proofs.tangent.parallel.Tie as tie
 
