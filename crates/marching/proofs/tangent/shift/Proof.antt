@@ -1,5 +1,7 @@
 -- `marching::tangent::shift` meets its contract: each way out has its tests, and what it calls its own. Assumes nothing.
+use mathlib.Core.Path.{sym, ap, _∙_}
 use borrow.Author.Needs.{needs}
+use Rattle.marching.specs.Tangent.{orZero}
 use Rattle.marching.proofs.tangent.shift.Statement.{statement}
 use Rattle.marching.proofs.tangent.shift.Tie as tie
 
@@ -28,10 +30,10 @@ enum-told : tie.Need-enum-told
 enum-told c = search needs
 
 returns : tie.Need-returns
-returns c = rw (← c .before .before .before .before .before .before .before .before .dot .ensures, ← c .before .before .before .before .before .before .before .dot2 .ensures, ← c .before .before .before .before .before .before .dot3 .ensures, ← c .before .before .before .before .before .dot4 .ensures, ← c .before .before .before .before .dot5 .ensures, ← c .before .before .before .solve-2x2 .ensures, c .before .solved .given .1)
+returns c = rw (← c .before .before .before .before .before .before .before .before .dot .ensures, ← c .before .before .before .before .before .before .before .dot2 .ensures, ← c .before .before .before .before .before .before .dot3 .ensures, ← c .before .before .before .before .before .dot4 .ensures, ← c .before .before .before .before .dot5 .ensures) (ap orZero (sym (c .before .solved .given .1) ∙ c .before .before .before .solve-2x2 .ensures))
 
 returns-2 : tie.Need-returns-2
-returns-2 c = rw (← c .before .before .before .before .before .before .before .dot .ensures, ← c .before .before .before .before .before .before .dot2 .ensures, ← c .before .before .before .before .before .dot3 .ensures, ← c .before .before .before .before .dot4 .ensures, ← c .before .before .before .dot5 .ensures, ← c .before .before .solve-2x2 .ensures, c .enum-told .given .1)
+returns-2 c = rw (← c .before .before .before .before .before .before .before .dot .ensures, ← c .before .before .before .before .before .before .dot2 .ensures, ← c .before .before .before .before .before .dot3 .ensures, ← c .before .before .before .before .dot4 .ensures, ← c .before .before .before .dot5 .ensures) (ap orZero (sym (c .enum-told .given .1) ∙ c .before .before .solve-2x2 .ensures))
 
 pub shift-spec : {M : Type 1} → statement M
 shift-spec = tie.close (tie.spec dot-requires dot-requires-2 dot-requires-3 dot-requires-4 dot-requires-5 solve-2x2-requires enum-known-solved enum-told returns returns-2)

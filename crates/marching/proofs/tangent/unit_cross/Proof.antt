@@ -1,9 +1,9 @@
 -- `marching::tangent::unit_cross` meets its contract: each way out has its tests, and what it calls its own. Assumes nothing.
 use borrow.Author.Needs.{needs}
-use mathlib.Core.Path.{_≡_, refl}
+use mathlib.Core.Path.{_≡_, refl, sym}
 use Rattle.sqrt.specs.Sqrt.{sqrtOf}
 use Rattle.vector.specs.declared.Vector3D.{Vector3D}
-use Rattle.vector.specs.Vector.{dotOf, squareMagnitudeOf, magnitudeOf}
+use Rattle.vector.specs.Vector.{dotOf, crossOf, squareMagnitudeOf, magnitudeOf}
 use Rattle.marching.specs.Tangent.{unitCross}
 use Rattle.marching.proofs.tangent.unit_cross.Statement.{statement}
 use Rattle.marching.proofs.tangent.unit_cross.Tie as tie
@@ -36,14 +36,16 @@ unfolding unitCross
 returns c =
     let p = c .before in
     let s = p .before .before .before .before .before in
-    rw (← p .before .before .before .before .cross .ensures, ← p .before .before .before .magnitude .ensures, root-of (s .args .na), root-of (s .args .nb), ← p .before .before .dot .ensures, ← p .before .dot2 .ensures, ← p .parallel .ensures, c .if1 .taken)
+    let t : crossOf (s .args .na) (s .args .nb) ≡ p .before .before .before .before .cross .result = sym (p .before .before .before .before .cross .ensures) in
+    rw (t, ← p .before .before .before .magnitude .ensures, root-of (s .args .na), root-of (s .args .nb), ← p .before .before .dot .ensures, ← p .before .dot2 .ensures, ← p .parallel .ensures, c .if1 .taken)
 
 returns-2 : tie.Need-returns-2
 unfolding unitCross
 returns-2 c =
     let p = c .before .before in
     let s = p .before .before .before .before .before in
-    rw (← p .before .before .before .before .cross .ensures, ← p .before .before .before .magnitude .ensures, root-of (s .args .na), root-of (s .args .nb), ← p .before .before .dot .ensures, ← p .before .dot2 .ensures, ← p .parallel .ensures, c .before .if1 .left, ← c .scale .ensures)
+    let t : crossOf (s .args .na) (s .args .nb) ≡ p .before .before .before .before .cross .result = sym (p .before .before .before .before .cross .ensures) in
+    rw (t, ← p .before .before .before .magnitude .ensures, root-of (s .args .na), root-of (s .args .nb), ← p .before .before .dot .ensures, ← p .before .dot2 .ensures, ← p .parallel .ensures, c .before .if1 .left, ← c .scale .ensures)
 
 pub unit-cross-spec : {M : Type 1} → statement M
 unit-cross-spec =

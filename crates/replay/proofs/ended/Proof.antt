@@ -1,0 +1,10 @@
+-- `replay::ended` meets its contract: the two sides are one struct. Assumes nothing.
+use mathlib.Core.Path.{refl}
+use Rattle.replay.proofs.ended.Statement.{statement}
+use Rattle.replay.proofs.ended.Tie as tie
+
+returns : tie.Need-returns
+returns c = refl
+
+pub ended-spec : {M : Type 1} → statement M
+ended-spec = tie.close (tie.spec returns)

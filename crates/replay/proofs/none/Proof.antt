@@ -1,0 +1,10 @@
+-- `replay::none` meets its contract: the two sides are one struct. Assumes nothing.
+use mathlib.Core.Path.{refl}
+use Rattle.replay.proofs.none.Statement.{statement}
+use Rattle.replay.proofs.none.Tie as tie
+
+returns : tie.Need-returns
+returns c = refl
+
+pub none-spec : {M : Type 1} → statement M
+none-spec = tie.close (tie.spec returns)
