@@ -1,6 +1,8 @@
 -- `meeting::newton::last_test` meets its contract: each way out has its tests, and what it calls its own. Assumes nothing.
+use mathlib.Core.Path.{_≡_, sym, _∙_}
+use mathlib.Core.Bool.{true, false}
 use borrow.Author.Needs.{needs}
-use Rattle.meeting.specs.Newton.{lastTest}
+use Rattle.meeting.specs.Newton.{nearOf, lastTest}
 use Rattle.meeting.proofs.newton.last_test.Statement.{statement}
 use Rattle.meeting.proofs.newton.last_test.Tie as tie
 
@@ -9,11 +11,19 @@ near-requires c κs = search needs
 
 returns : tie.Need-returns
 unfolding lastTest
-returns c = rw (← c .before .before .near .ensures, c .before .if1 .taken)
+returns c =
+    let n = c .before .before in
+    let g = n .before .args in
+    let near : nearOf (g .a) (g .b) (g .s) (g .confusion) ≡ true = sym (n .near .ensures) ∙ c .before .if1 .taken in
+    rw near
 
 returns-2 : tie.Need-returns-2
 unfolding lastTest
-returns-2 c = rw (← c .before .near .ensures, c .if1 .left)
+returns-2 c =
+    let n = c .before in
+    let g = n .before .args in
+    let far : nearOf (g .a) (g .b) (g .s) (g .confusion) ≡ false = sym (n .near .ensures) ∙ c .if1 .left in
+    rw far
 
 pub last-test-spec : {M : Type 1} → statement M
 last-test-spec = tie.close (tie.spec near-requires returns returns-2)

@@ -1,15 +1,26 @@
 -- `meeting::newton::newton_round` meets its contract: each way out has its tests, and what it calls its own. Assumes nothing.
+use mathlib.Core.Path.{_≡_, sym, _∙_}
+use mathlib.Core.Bool.{Bool}
+use lib.Ieee.{Float}
 use borrow.Author.Needs.{needs}
-use Rattle.meeting.specs.Newton.{roundOf}
+use Rattle.number.specs.Operators.{_⊗_}
+use Rattle.number.specs.Helpers.{tenth}
+use Rattle.patch.specs.declared.patch.Patch.{Patch}
+use Rattle.meeting.specs.declared.step.Residual.{Residual}
+use Rattle.meeting.specs.Newton.{nearOf, roundOf}
 use Rattle.meeting.proofs.newton.newton_round.Statement.{statement}
 use Rattle.meeting.proofs.newton.newton_round.Tie as tie
+
+-- the test at once, against a tenth of confusion
+at-once : (a b : Patch) (s : Residual) (confusion : Float) {r t : Bool} → r ≡ nearOf a b s (tenth ⊗ confusion) → r ≡ t → nearOf a b s (tenth ⊗ confusion) ≡ t
+at-once a b s confusion e h = sym e ∙ h
 
 near-requires : tie.Need-near-requires
 near-requires c κs = search needs
 
 returns : tie.Need-returns
 unfolding roundOf
-returns c = rw (← c .before .before .near .ensures, c .before .if1 .taken)
+returns c = rw (at-once _ _ _ _ (c .before .before .near .ensures) (c .before .if1 .taken))
 
 newton-step-requires : tie.Need-newton-step-requires
 newton-step-requires c κs = search needs
@@ -22,7 +33,7 @@ enum-told c = search needs
 
 returns-2 : tie.Need-returns-2
 unfolding roundOf
-returns-2 c = rw (← c .before .before .before .before .near .ensures, c .before .before .before .if1 .left, ← c .before .before .newton-step .ensures, c .enum-told .given .1)
+returns-2 c = rw (at-once _ _ _ _ (c .before .before .before .before .near .ensures) (c .before .before .before .if1 .left), ← c .before .before .newton-step .ensures, c .enum-told .given .1)
 
 trials-requires : tie.Need-trials-requires
 trials-requires c κs = search needs
@@ -38,11 +49,11 @@ last-test-requires c κs = search needs
 
 returns-3 : tie.Need-returns-3
 unfolding roundOf
-returns-3 c = rw (← c .before .before .before .before .before .before .before .before .before .near .ensures, c .before .before .before .before .before .before .before .before .if1 .left, ← c .before .before .before .before .before .before .before .newton-step .ensures, c .before .before .before .before .before .step .given .1, ← c .before .before .before .trials .ensures, c .before .enum-told2 .given .1, ← c .last-test .ensures)
+returns-3 c = rw (at-once _ _ _ _ (c .before .before .before .before .before .before .before .before .before .near .ensures) (c .before .before .before .before .before .before .before .before .if1 .left), ← c .before .before .before .before .before .before .before .newton-step .ensures, c .before .before .before .before .before .step .given .1, ← c .before .before .before .trials .ensures, c .before .enum-told2 .given .1, ← c .last-test .ensures)
 
 returns-4 : tie.Need-returns-4
 unfolding roundOf
-returns-4 c = rw (← c .before .before .before .before .before .before .before .before .before .near .ensures, c .before .before .before .before .before .before .before .before .if1 .left, ← c .before .before .before .before .before .before .before .newton-step .ensures, c .before .before .before .before .before .step .given .1, ← c .before .before .before .trials .ensures, c .before .trial .given .1)
+returns-4 c = rw (at-once _ _ _ _ (c .before .before .before .before .before .before .before .before .before .near .ensures) (c .before .before .before .before .before .before .before .before .if1 .left), ← c .before .before .before .before .before .before .before .newton-step .ensures, c .before .before .before .before .before .step .given .1, ← c .before .before .before .trials .ensures, c .before .trial .given .1)
 
 pub newton-round-spec : {M : Type 1} → statement M
 newton-round-spec = tie.close (tie.spec near-requires returns newton-step-requires enum-known-step enum-told returns-2 trials-requires enum-known-trial enum-told-2 last-test-requires returns-3 returns-4)

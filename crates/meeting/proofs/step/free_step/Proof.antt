@@ -37,7 +37,7 @@ returns c = rw (← c .before .before .before .before .before .before .normal-ma
 
 returns-2 : tie.Need-returns-2
 unfolding freeStep
-returns-2 c = rw (← c .before .before .before .before .before .before .before .before .before .before .before .before .before .before .before .before .normal-matrix .ensures, ← c .before .before .before .before .before .before .before .before .before .before .before .before .solve-3x3 .ensures, c .before .before .before .before .before .before .before .before .before .before .solved .given .1, ← c .before .before .before .before .before .before .before .before .new .ensures, ← c .before .before .before .dot .ensures, ← c .before .before .dot2 .ensures, ← c .before .dot3 .ensures, ← c .dot4 .ensures)
+returns-2 c = rw (c .dot4 .ensures, c .before .dot3 .ensures, c .before .before .dot2 .ensures, c .before .before .before .dot .ensures, c .before .before .before .before .before .before .before .before .new .ensures, ← c .before .before .before .before .before .before .before .before .before .before .before .before .before .before .before .before .normal-matrix .ensures, ← c .before .before .before .before .before .before .before .before .before .before .before .before .solve-3x3 .ensures, c .before .before .before .before .before .before .before .before .before .before .solved .given .1)
 
 pub free-step-spec : {M : Type 1} → statement M
 free-step-spec = tie.close (tie.spec normal-matrix-requires solve-3x3-requires enum-told enum-known-solved new-requires dot-requires dot-requires-2 dot-requires-3 dot-requires-4 returns returns-2)

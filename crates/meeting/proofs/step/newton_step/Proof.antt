@@ -27,15 +27,15 @@ pin-step-requires c κs = search needs
 
 returns : tie.Need-returns
 unfolding newtonStep
-returns c = rw (c .before .enum-told .given .1, ← c .before .before .before .jacobian .ensures, ← c .free-step .ensures)
+returns c = rw (c .free-step .ensures, c .before .before .before .jacobian .ensures, c .before .enum-told .given .1)
 
 returns-2 : tie.Need-returns-2
 unfolding newtonStep
-returns-2 c = rw (c .before .before .target .given .1, ← c .before .before .before .before .jacobian .ensures, ← c .plane-step .ensures)
+returns-2 c = rw (c .plane-step .ensures, c .before .before .before .before .jacobian .ensures, c .before .before .target .given .1)
 
 returns-3 : tie.Need-returns-3
 unfolding newtonStep
-returns-3 c = rw (c .before .before .target2 .given .1, ← c .before .before .before .before .jacobian .ensures, ← c .pin-step .ensures)
+returns-3 c = rw (c .pin-step .ensures, c .before .before .before .before .jacobian .ensures, c .before .before .target2 .given .1)
 
 pub newton-step-spec : {M : Type 1} → statement M
 newton-step-spec = tie.close (tie.spec jacobian-requires enum-told free-step-requires enum-known-target plane-step-requires enum-known-target-2 pin-step-requires returns returns-2 returns-3)

@@ -25,7 +25,7 @@ returns c = rw (c .enum-told .given .1)
 
 returns-2 : tie.Need-returns-2
 unfolding offsetOf
-returns-2 c = rw (c .before .before .before .target .given .1, ← c .before .sub .ensures, ← c .dot .ensures)
+returns-2 c = rw (c .dot .ensures, c .before .sub .ensures, c .before .before .before .target .given .1)
 
 returns-3 : tie.Need-returns-3
 unfolding offsetOf

@@ -1,6 +1,7 @@
 -- `meeting::step::plane_step` meets its contract: each way out has its tests, and what it calls its own. Assumes nothing.
+use mathlib.Core.Path.{sym, ap, _∙_}
 use borrow.Author.Needs.{needs}
-use Rattle.meeting.specs.Step.{planeStep}
+use Rattle.meeting.specs.Step.{byFour, planeStep}
 use Rattle.meeting.proofs.step.plane_step.Statement.{statement}
 use Rattle.meeting.proofs.step.plane_step.Tie as tie
 
@@ -21,11 +22,11 @@ enum-known-solved c = search needs
 
 returns : tie.Need-returns
 unfolding planeStep
-returns c = rw (← c .before .before .before .before .before .before .before .dot .ensures, ← c .before .before .before .before .before .before .dot2 .ensures, ← c .before .before .solve-4x4 .ensures, c .enum-told .given .1)
+returns c = rw (← c .before .before .before .before .before .before .before .dot .ensures, ← c .before .before .before .before .before .before .dot2 .ensures) (ap byFour (sym (c .enum-told .given .1) ∙ c .before .before .solve-4x4 .ensures))
 
 returns-2 : tie.Need-returns-2
 unfolding planeStep
-returns-2 c = rw (← c .before .before .before .before .before .before .before .before .dot .ensures, ← c .before .before .before .before .before .before .before .dot2 .ensures, ← c .before .before .before .solve-4x4 .ensures, c .before .solved .given .1)
+returns-2 c = rw (← c .before .before .before .before .before .before .before .before .dot .ensures, ← c .before .before .before .before .before .before .before .dot2 .ensures) (ap byFour (sym (c .before .solved .given .1) ∙ c .before .before .before .solve-4x4 .ensures))
 
 pub plane-step-spec : {M : Type 1} → statement M
 plane-step-spec = tie.close (tie.spec dot-requires dot-requires-2 solve-4x4-requires enum-told enum-known-solved returns returns-2)
