@@ -34,14 +34,14 @@ unfolding crossingOf
 returns-3 c =
     let h = c .before .before in
     let t = h .before .before in
-    rw (← t .is-fit .ensures, not-false (t .is-fit .result) (h .before .if1 .left), ← h .holds .ensures, not-false (h .holds .result) (c .before .if2 .left), lt-ltb _ _ (c .if3 .taken))
+    rw (← t .is-fit .ensures, not-false (t .is-fit .result) (h .before .if1 .left), ← h .holds .ensures, not-false (h .holds .result) (c .before .if2 .left), lt-ltb _ 4 (c .if3 .taken))
 
 returns-4 : tie.Need-returns-4
 unfolding crossingOf
 returns-4 c =
     let h = c .before .before .before in
     let t = h .before .before in
-    rw (← t .is-fit .ensures, not-false (t .is-fit .result) (h .before .if1 .left), ← h .holds .ensures, not-false (h .holds .result) (c .before .before .if2 .left), le-ltb _ _ (c .before .if3 .left), lt-ltb _ _ (c .if4 .taken))
+    rw (← t .is-fit .ensures, not-false (t .is-fit .result) (h .before .if1 .left), ← h .holds .ensures, not-false (h .holds .result) (c .before .before .if2 .left), le-ltb _ 4 (c .before .if3 .left), lt-ltb 4001 _ (c .if4 .taken))
 
 some-unfit-requires : tie.Need-some-unfit-requires
 some-unfit-requires c κs =
@@ -55,7 +55,7 @@ returns-5 c =
     let u = c .before in
     let h = u .before .before .before .before in
     let t = h .before .before in
-    rw (← t .is-fit .ensures, not-false (t .is-fit .result) (h .before .if1 .left), ← h .holds .ensures, not-false (h .holds .result) (u .before .before .before .if2 .left), le-ltb _ _ (u .before .before .if3 .left), le-ltb _ _ (u .before .if4 .left), ← u .some-unfit .ensures, c .if5 .taken)
+    rw (← t .is-fit .ensures, not-false (t .is-fit .result) (h .before .if1 .left), ← h .holds .ensures, not-false (h .holds .result) (u .before .before .before .if2 .left), le-ltb _ 4 (u .before .before .if3 .left), le-ltb 4001 _ (u .before .if4 .left), ← u .some-unfit .ensures, c .if5 .taken)
 
 box-fit-requires : tie.Need-box-fit-requires
 box-fit-requires c κs = search needs
@@ -67,7 +67,7 @@ returns-6 c =
     let u = f .before .before in
     let h = u .before .before .before .before in
     let t = h .before .before in
-    rw (← t .is-fit .ensures, not-false (t .is-fit .result) (h .before .if1 .left), ← h .holds .ensures, not-false (h .holds .result) (u .before .before .before .if2 .left), le-ltb _ _ (u .before .before .if3 .left), le-ltb _ _ (u .before .if4 .left), ← u .some-unfit .ensures, f .before .if5 .left, ← f .box-fit .ensures, not-true (f .box-fit .result) (c .if6 .taken))
+    rw (← t .is-fit .ensures, not-false (t .is-fit .result) (h .before .if1 .left), ← h .holds .ensures, not-false (h .holds .result) (u .before .before .before .if2 .left), le-ltb _ 4 (u .before .before .if3 .left), le-ltb 4001 _ (u .before .if4 .left), ← u .some-unfit .ensures, f .before .if5 .left, ← f .box-fit .ensures, not-true (f .box-fit .result) (c .if6 .taken))
 
 crosses-requires : tie.Need-crosses-requires
 crosses-requires c κs =
@@ -85,7 +85,7 @@ returns-7 c =
     let u = f .before .before in
     let h = u .before .before .before .before in
     let t = h .before .before in
-    rw (← t .is-fit .ensures, not-false (t .is-fit .result) (h .before .if1 .left), ← h .holds .ensures, not-false (h .holds .result) (u .before .before .before .if2 .left), le-ltb _ _ (u .before .before .if3 .left), le-ltb _ _ (u .before .if4 .left), ← u .some-unfit .ensures, f .before .if5 .left, ← f .box-fit .ensures, not-false (f .box-fit .result) (x .before .if6 .left), ← x .crosses .ensures, c .if7 .taken)
+    rw (← t .is-fit .ensures, not-false (t .is-fit .result) (h .before .if1 .left), ← h .holds .ensures, not-false (h .holds .result) (u .before .before .before .if2 .left), le-ltb _ 4 (u .before .before .if3 .left), le-ltb 4001 _ (u .before .if4 .left), ← u .some-unfit .ensures, f .before .if5 .left, ← f .box-fit .ensures, not-false (f .box-fit .result) (x .before .if6 .left), ← x .crosses .ensures, c .if7 .taken)
 
 returns-8 : tie.Need-returns-8
 unfolding crossingOf
@@ -95,7 +95,7 @@ returns-8 c =
     let u = f .before .before in
     let h = u .before .before .before .before in
     let t = h .before .before in
-    rw (← t .is-fit .ensures, not-false (t .is-fit .result) (h .before .if1 .left), ← h .holds .ensures, not-false (h .holds .result) (u .before .before .before .if2 .left), le-ltb _ _ (u .before .before .if3 .left), le-ltb _ _ (u .before .if4 .left), ← u .some-unfit .ensures, f .before .if5 .left, ← f .box-fit .ensures, not-false (f .box-fit .result) (x .before .if6 .left), ← x .crosses .ensures, c .if7 .left)
+    rw (← t .is-fit .ensures, not-false (t .is-fit .result) (h .before .if1 .left), ← h .holds .ensures, not-false (h .holds .result) (u .before .before .before .if2 .left), le-ltb _ 4 (u .before .before .if3 .left), le-ltb 4001 _ (u .before .if4 .left), ← u .some-unfit .ensures, f .before .if5 .left, ← f .box-fit .ensures, not-false (f .box-fit .result) (x .before .if6 .left), ← x .crosses .ensures, c .if7 .left)
 
 pub crossing-spec : {M : Type 1} → statement M
 crossing-spec = tie.close (tie.spec is-fit-requires returns holds-requires returns-2 returns-3 returns-4 some-unfit-requires returns-5 box-fit-requires returns-6 crosses-requires returns-7 returns-8)

@@ -1,6 +1,8 @@
 -- `boxes::marching::run_points` meets its contract: each way out has its tests, and what it calls its own. Assumes nothing.
+use Prim.Native.Nat.{_+_}
 use borrow.Author.Needs.{needs}
 use borrow.Author.Tests.{lt-ltb, le-ltb}
+use Rattle.boxes.specs.Crosses.{runLength}
 use Rattle.boxes.proofs.marching.run_points.Statement.{statement}
 use Rattle.boxes.proofs.marching.run_points.Tie as tie
 
@@ -14,10 +16,10 @@ add-result : tie.Need-add-result
 add-result c = search needs
 
 returns : tie.Need-returns
-returns c = rw (lt-ltb _ _ (c .if1 .taken))
+returns c = rw (lt-ltb (runLength + 1) _ (c .if1 .taken))
 
 returns-2 : tie.Need-returns-2
-returns-2 c = rw (le-ltb _ _ (c .if1 .left))
+returns-2 c = rw (le-ltb (runLength + 1) _ (c .if1 .left))
 
 pub run-points-spec : {M : Type 1} → statement M
 run-points-spec = tie.close (tie.spec sub-left add-if1 add-result returns returns-2)
