@@ -30,10 +30,16 @@ enum-told : tie.Need-enum-told
 enum-told c = search needs
 
 returns : tie.Need-returns
-returns c = rw (← c .before .before .before .before .before .before .before .before .dot .ensures, ← c .before .before .before .before .before .before .before .dot2 .ensures, ← c .before .before .before .before .before .before .dot3 .ensures, ← c .before .before .before .before .before .dot4 .ensures, ← c .before .before .before .before .dot5 .ensures) (ap orZero (sym (c .before .solved .given .1) ∙ c .before .before .before .solve-2x2 .ensures))
+returns c =
+    let c1 = c .before in let c3 = c1 .before .before in let c4 = c3 .before in let c5 = c4 .before in let c6 = c5 .before in
+    let c7 = c6 .before in let c8 = c7 .before in
+    rw (← c8 .dot .ensures, ← c7 .dot2 .ensures, ← c6 .dot3 .ensures, ← c5 .dot4 .ensures, ← c4 .dot5 .ensures) (ap orZero (sym (c1 .solved .given .1) ∙ c3 .solve-2x2 .ensures))
 
 returns-2 : tie.Need-returns-2
-returns-2 c = rw (← c .before .before .before .before .before .before .before .dot .ensures, ← c .before .before .before .before .before .before .dot2 .ensures, ← c .before .before .before .before .before .dot3 .ensures, ← c .before .before .before .before .dot4 .ensures, ← c .before .before .before .dot5 .ensures) (ap orZero (sym (c .enum-told .given .1) ∙ c .before .before .solve-2x2 .ensures))
+returns-2 c =
+    let c2 = c .before .before in let c3 = c2 .before in let c4 = c3 .before in let c5 = c4 .before in let c6 = c5 .before in
+    let c7 = c6 .before in
+    rw (← c7 .dot .ensures, ← c6 .dot2 .ensures, ← c5 .dot3 .ensures, ← c4 .dot4 .ensures, ← c3 .dot5 .ensures) (ap orZero (sym (c .enum-told .given .1) ∙ c2 .solve-2x2 .ensures))
 
 pub shift-spec : {M : Type 1} → statement M
 shift-spec = tie.close (tie.spec dot-requires dot-requires-2 dot-requires-3 dot-requires-4 dot-requires-5 solve-2x2-requires enum-known-solved enum-told returns returns-2)

@@ -49,11 +49,17 @@ last-test-requires c κs = search needs
 
 returns-3 : tie.Need-returns-3
 unfolding roundOf
-returns-3 c = rw (at-once _ _ _ _ (c .before .before .before .before .before .before .before .before .before .near .ensures) (c .before .before .before .before .before .before .before .before .if1 .left), ← c .before .before .before .before .before .before .before .newton-step .ensures, c .before .before .before .before .before .step .given .1, ← c .before .before .before .trials .ensures, c .before .enum-told2 .given .1, ← c .last-test .ensures)
+returns-3 c =
+    let c1 = c .before in let c3 = c1 .before .before in let c5 = c3 .before .before in let c7 = c5 .before .before in let c8 = c7 .before in
+    let c9 = c8 .before in
+    rw (at-once _ _ _ _ (c9 .near .ensures) (c8 .if1 .left), ← c7 .newton-step .ensures, c5 .step .given .1, ← c3 .trials .ensures, c1 .enum-told2 .given .1, ← c .last-test .ensures)
 
 returns-4 : tie.Need-returns-4
 unfolding roundOf
-returns-4 c = rw (at-once _ _ _ _ (c .before .before .before .before .before .before .before .before .before .near .ensures) (c .before .before .before .before .before .before .before .before .if1 .left), ← c .before .before .before .before .before .before .before .newton-step .ensures, c .before .before .before .before .before .step .given .1, ← c .before .before .before .trials .ensures, c .before .trial .given .1)
+returns-4 c =
+    let c1 = c .before in let c3 = c1 .before .before in let c5 = c3 .before .before in let c7 = c5 .before .before in let c8 = c7 .before in
+    let c9 = c8 .before in
+    rw (at-once _ _ _ _ (c9 .near .ensures) (c8 .if1 .left), ← c7 .newton-step .ensures, c5 .step .given .1, ← c3 .trials .ensures, c1 .trial .given .1)
 
 pub newton-round-spec : {M : Type 1} → statement M
 newton-round-spec = tie.close (tie.spec near-requires returns newton-step-requires enum-known-step enum-told returns-2 trials-requires enum-known-trial enum-told-2 last-test-requires returns-3 returns-4)

@@ -37,7 +37,10 @@ returns c = rw (← c .before .before .before .before .before .before .normal-ma
 
 returns-2 : tie.Need-returns-2
 unfolding freeStep
-returns-2 c = rw (c .dot4 .ensures, c .before .dot3 .ensures, c .before .before .dot2 .ensures, c .before .before .before .dot .ensures, c .before .before .before .before .before .before .before .before .new .ensures, ← c .before .before .before .before .before .before .before .before .before .before .before .before .before .before .before .before .normal-matrix .ensures, ← c .before .before .before .before .before .before .before .before .before .before .before .before .solve-3x3 .ensures, c .before .before .before .before .before .before .before .before .before .before .solved .given .1)
+returns-2 c =
+    let c1 = c .before in let c2 = c1 .before in let c3 = c2 .before in let c8 = c3 .before .before .before .before .before in
+    let c10 = c8 .before .before in let c12 = c10 .before .before in let c16 = c12 .before .before .before .before in
+    rw (c .dot4 .ensures, c1 .dot3 .ensures, c2 .dot2 .ensures, c3 .dot .ensures, c8 .new .ensures, ← c16 .normal-matrix .ensures, ← c12 .solve-3x3 .ensures, c10 .solved .given .1)
 
 pub free-step-spec : {M : Type 1} → statement M
 free-step-spec = tie.close (tie.spec normal-matrix-requires solve-3x3-requires enum-told enum-known-solved new-requires dot-requires dot-requires-2 dot-requires-3 dot-requires-4 returns returns-2)

@@ -22,11 +22,15 @@ enum-known-solved c = search needs
 
 returns : tie.Need-returns
 unfolding planeStep
-returns c = rw (← c .before .before .before .before .before .before .before .dot .ensures, ← c .before .before .before .before .before .before .dot2 .ensures) (ap byFour (sym (c .enum-told .given .1) ∙ c .before .before .solve-4x4 .ensures))
+returns c =
+    let c2 = c .before .before in let c6 = c2 .before .before .before .before in let c7 = c6 .before in
+    rw (← c7 .dot .ensures, ← c6 .dot2 .ensures) (ap byFour (sym (c .enum-told .given .1) ∙ c2 .solve-4x4 .ensures))
 
 returns-2 : tie.Need-returns-2
 unfolding planeStep
-returns-2 c = rw (← c .before .before .before .before .before .before .before .before .dot .ensures, ← c .before .before .before .before .before .before .before .dot2 .ensures) (ap byFour (sym (c .before .solved .given .1) ∙ c .before .before .before .solve-4x4 .ensures))
+returns-2 c =
+    let c1 = c .before in let c3 = c1 .before .before in let c7 = c3 .before .before .before .before in let c8 = c7 .before in
+    rw (← c8 .dot .ensures, ← c7 .dot2 .ensures) (ap byFour (sym (c1 .solved .given .1) ∙ c3 .solve-4x4 .ensures))
 
 pub plane-step-spec : {M : Type 1} → statement M
 plane-step-spec = tie.close (tie.spec dot-requires dot-requires-2 solve-4x4-requires enum-told enum-known-solved returns returns-2)

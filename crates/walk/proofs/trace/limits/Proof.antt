@@ -1,31 +1,79 @@
--- `walk::trace::limits` meets its contract. Assumes nothing.
+-- `walk::trace::limits` meets its contract: a law for each way out, from its tests. Assumes nothing.
+use mathlib.Core.Path.{_≡_, sym, _∙_}
+use mathlib.Core.Bool.{true, false}
+use mathlib.Core.List.{List}
+use Prim.Native.Nat.{ℕ, _+_, _*_, _≤_, _<_}
+use lib.Ieee.{Float}
 use borrow.Author.Needs.{needs}
 use borrow.Author.Tests.{le-leb, lt-leb, not-false, not-true}
-use Rattle.walk.specs.Trace.{limitsOf}
+use Rattle.groups.specs.Groups.{width, holdsOf}
+use Rattle.refusal.specs.declared.Refusal.the-variants as refusal
+use Rattle.tolerance.specs.declared.Tolerance.{Tolerance}
+use Rattle.tolerance.specs.Tolerance.{toleranceFit}
+use Rattle.patch.specs.declared.patch.Parameters.{Parameters}
+use Rattle.patch.specs.declared.patch.Fitness.the-variants.{Fit, Unfit}
+use Rattle.walk.specs.Trace.{guessFinite, limitsOf}
 use Rattle.walk.proofs.trace.limits.Statement.{statement}
 use Rattle.walk.proofs.trace.limits.Tie as tie
+
+module _ (tol : Tolerance) (guess : Parameters) (n : ℕ) (l : List Float) where
+  five : toleranceFit tol ≡ false → Unfit refusal.Tolerance ≡ limitsOf tol guess n l
+  unfolding limitsOf
+  five t = rw t
+
+  module _ (t : toleranceFit tol ≡ true) where
+    six : guessFinite guess ≡ false → Unfit refusal.Parameter ≡ limitsOf tol guess n l
+    unfolding limitsOf
+    six g = rw (t, g)
+
+    module _ (g : guessFinite guess ≡ true) where
+      seven-below : n < 2 → Unfit refusal.StepCap ≡ limitsOf tol guess n l
+      unfolding limitsOf
+      seven-below h = rw (t, g, lt-leb 2 n h)
+
+      module _ (least : 2 ≤ n) where
+        seven-above : 2000 < n → Unfit refusal.StepCap ≡ limitsOf tol guess n l
+        unfolding limitsOf
+        seven-above h = rw (t, g, le-leb 2 n least, lt-leb n 2000 h)
+
+        eight : n ≤ 2000 → holdsOf width l (2 * n + 1) ≡ false → Unfit refusal.Lent ≡ limitsOf tol guess n l
+        unfolding limitsOf
+        eight h e = rw (t, g, le-leb 2 n least, le-leb n 2000 h, e)
+
+        fit : n ≤ 2000 → holdsOf width l (2 * n + 1) ≡ true → Fit ≡ limitsOf tol guess n l
+        unfolding limitsOf
+        fit h e = rw (t, g, le-leb 2 n least, le-leb n 2000 h, e)
 
 is-fit-requires : tie.Need-is-fit-requires
 is-fit-requires c κs = search needs
 
 returns : tie.Need-returns
-unfolding limitsOf
-returns c = rw (← c .before .is-fit .ensures, not-true (c .before .is-fit .result) (c .if1 .taken))
+returns c = five _ _ _ _ (sym (c .before .is-fit .ensures) ∙ not-true _ (c .if1 .taken))
 
 guess-finite-requires : tie.Need-guess-finite-requires
 guess-finite-requires c κs = search needs
 
 returns-2 : tie.Need-returns-2
-unfolding limitsOf
-returns-2 c = rw (← c .before .before .before .is-fit .ensures, not-false (c .before .before .before .is-fit .result) (c .before .before .if1 .left), ← c .before .guess-finite .ensures, not-true (c .before .guess-finite .result) (c .if2 .taken))
+returns-2 c =
+    let f = c .before in
+    let t = f .before .before in
+    six _ _ _ _ (sym (t .is-fit .ensures) ∙ not-false _ (f .before .if1 .left)) (sym (f .guess-finite .ensures) ∙ not-true _ (c .if2 .taken))
 
 returns-3 : tie.Need-returns-3
-unfolding limitsOf
-returns-3 c = rw (← c .before .before .before .before .is-fit .ensures, not-false (c .before .before .before .before .is-fit .result) (c .before .before .before .if1 .left), ← c .before .before .guess-finite .ensures, not-false (c .before .before .guess-finite .result) (c .before .if2 .left), lt-leb _ _ (c .if3 .taken))
+returns-3 c =
+    let f = c .before .before in
+    let t = f .before .before in
+    let a = sym (t .is-fit .ensures) ∙ not-false _ (f .before .if1 .left) in
+    let b = sym (f .guess-finite .ensures) ∙ not-false _ (c .before .if2 .left) in
+    seven-below _ _ _ _ a b (c .if3 .taken)
 
 returns-4 : tie.Need-returns-4
-unfolding limitsOf
-returns-4 c = rw (← c .before .before .before .before .before .is-fit .ensures, not-false (c .before .before .before .before .before .is-fit .result) (c .before .before .before .before .if1 .left), ← c .before .before .before .guess-finite .ensures, not-false (c .before .before .before .guess-finite .result) (c .before .before .if2 .left), le-leb _ _ (c .before .if3 .left), lt-leb _ _ (c .if4 .taken))
+returns-4 c =
+    let f = c .before .before .before in
+    let t = f .before .before in
+    let a = sym (t .is-fit .ensures) ∙ not-false _ (f .before .if1 .left) in
+    let b = sym (f .guess-finite .ensures) ∙ not-false _ (c .before .before .if2 .left) in
+    seven-above _ _ _ _ a b (c .before .if3 .left) (c .if4 .taken)
 
 mul-holds : tie.Need-mul-holds
 mul-holds c = search needs
@@ -37,12 +85,24 @@ holds-requires : tie.Need-holds-requires
 holds-requires c κs = search needs
 
 returns-5 : tie.Need-returns-5
-unfolding limitsOf
-returns-5 c = rw (← c .before .before .before .before .before .before .before .is-fit .ensures, not-false (c .before .before .before .before .before .before .before .is-fit .result) (c .before .before .before .before .before .before .if1 .left), ← c .before .before .before .before .before .guess-finite .ensures, not-false (c .before .before .before .before .before .guess-finite .result) (c .before .before .before .before .if2 .left), le-leb _ _ (c .before .before .before .if3 .left), le-leb _ _ (c .before .before .if4 .left), ← c .before .holds .ensures, not-true (c .before .holds .result) (c .if5 .taken))
+returns-5 c =
+    let h = c .before in
+    let f = h .before .before .before .before in
+    let t = f .before .before in
+    let e = sym (h .holds .ensures) ∙ not-true _ (c .if5 .taken) in
+    let a = sym (t .is-fit .ensures) ∙ not-false _ (f .before .if1 .left) in
+    let b = sym (f .guess-finite .ensures) ∙ not-false _ (h .before .before .before .if2 .left) in
+    eight _ _ _ _ a b (h .before .before .if3 .left) (h .before .if4 .left) e
 
 returns-6 : tie.Need-returns-6
-unfolding limitsOf
-returns-6 c = rw (← c .before .before .before .before .before .before .before .is-fit .ensures, not-false (c .before .before .before .before .before .before .before .is-fit .result) (c .before .before .before .before .before .before .if1 .left), ← c .before .before .before .before .before .guess-finite .ensures, not-false (c .before .before .before .before .before .guess-finite .result) (c .before .before .before .before .if2 .left), le-leb _ _ (c .before .before .before .if3 .left), le-leb _ _ (c .before .before .if4 .left), ← c .before .holds .ensures, not-false (c .before .holds .result) (c .if5 .left))
+returns-6 c =
+    let h = c .before in
+    let f = h .before .before .before .before in
+    let t = f .before .before in
+    let e = sym (h .holds .ensures) ∙ not-false _ (c .if5 .left) in
+    let a = sym (t .is-fit .ensures) ∙ not-false _ (f .before .if1 .left) in
+    let b = sym (f .guess-finite .ensures) ∙ not-false _ (h .before .before .before .if2 .left) in
+    fit _ _ _ _ a b (h .before .before .if3 .left) (h .before .if4 .left) e
 
 pub limits-spec : {M : Type 1} → statement M
 limits-spec =

@@ -1,14 +1,37 @@
--- `walk::trace::walked` meets its contract. Assumes nothing.
-use mathlib.Core.Path.{ap, _∙_}
+-- `walk::trace::walked` meets its contract: a law for each way out, from what the meeting and the tangent say. Assumes nothing.
+use mathlib.Core.Path.{_≡_, sym, ap, _∙_}
 use Prim.Native.Nat.{ℕ}
 use borrow.Author.Needs.{needs}
 use denote.Ref.{now}
 use lib.ListN.{replicate}
 use Rattle.groups.specs.Row.{zero}
-use Rattle.walk.specs.Trace.{walkedOf}
+use Rattle.refusal.specs.declared.Refusal.the-variants as refusal
+use Rattle.vector.specs.declared.Vector3D.{Vector3D}
+use Rattle.tolerance.specs.declared.Tolerance.{Tolerance}
+use Rattle.patch.specs.declared.patch.Patch.{Patch}
+use Rattle.patch.specs.declared.patch.Parameters.{Parameters}
+use Rattle.meeting.specs.declared.newton.Met.the-variants as met
+use Rattle.meeting.specs.Newton.{meetOf}
+use Rattle.marching.specs.declared.tangent.Direction.the-variants as direction
+use Rattle.marching.specs.Tangent.{tangentOf}
+use Rattle.walk.specs.Line.{lineOf}
+use Rattle.walk.specs.Trace.{Outcome, refusedWalk, settled, walkedOf}
 use Rattle.walk.proofs.Lines.{cleared}
 use Rattle.walk.proofs.trace.walked.Statement.{statement}
 use Rattle.walk.proofs.trace.walked.Tie as tie
+
+module _ (a b : Patch) (tol : Tolerance) (guess : Parameters) (n : ℕ) where
+  nine : meetOf a b guess tol ≡ met.Nothing → refusedWalk refusal.NoMeeting n ≡ walkedOf a b tol guess n
+  unfolding walkedOf
+  nine m = rw m
+
+  ten : (x : Parameters) → meetOf a b guess tol ≡ met.At x → tangentOf a b x tol ≡ direction.Missing → refusedWalk refusal.NoDirection n ≡ walkedOf a b tol guess n
+  unfolding walkedOf
+  ten x m d = rw (m, d)
+
+  along : (x : Parameters) (t : Vector3D) → meetOf a b guess tol ≡ met.At x → tangentOf a b x tol ≡ direction.Along t → settled a n (lineOf a b tol x t n) ≡ walkedOf a b tol guess n
+  unfolding walkedOf
+  along x t m d = rw (m, d)
 
 meet-requires : tie.Need-meet-requires
 meet-requires c κs = search needs
@@ -26,11 +49,13 @@ same-length : tie.Need-same-length
 same-length c = search needs
 
 returns : tie.Need-returns
-unfolding walkedOf
 returns c =
-    let st = c .before .before .before .before .before .before .before .before in
-    let z = c .before .before .clear .ensures ∙ cleared (now (st .args .points)) ∙ ap (λ (k : ℕ). replicate k zero) (st .pre .1) in
-    (rw (← c .before .before .before .before .before .before .meet .ensures, c .before .before .before .before .enum-told .given .1), rw (← c .before .before .before .before .before .before .meet .ensures, c .before .before .before .before .enum-told .given .1) z)
+    let m = c .before .before .before .before .before .before in
+    let st = m .before .before in
+    let g = st .args in
+    let e = nine (g .a) (g .b) (g .tol) (g .guess) (g .n) (sym (m .meet .ensures) ∙ c .before .before .before .before .enum-told .given .1) in
+    let z = c .before .before .clear .ensures ∙ cleared (now (g .points)) ∙ ap (λ (k : ℕ). replicate k zero) (st .pre .1) in
+    (ap (λ (o : Outcome). o .answer) e, z ∙ ap (λ (o : Outcome). o .buffer) e)
 
 tangent-requires : tie.Need-tangent-requires
 tangent-requires c κs = search needs
@@ -48,11 +73,15 @@ same-length-2 : tie.Need-same-length-2
 same-length-2 c = search needs
 
 returns-2 : tie.Need-returns-2
-unfolding walkedOf
 returns-2 c =
-    let st = c .before .before .before .before .before .before .before .before .before .before .before .before in
-    let z = c .before .before .clear2 .ensures ∙ cleared (now (st .args .points)) ∙ ap (λ (k : ℕ). replicate k zero) (st .pre .1) in
-    (rw (← c .before .before .before .before .before .before .before .before .before .before .meet .ensures, c .before .before .before .before .before .before .before .before .seed .given .1, ← c .before .before .before .before .before .before .tangent .ensures, c .before .before .before .before .enum-told2 .given .1), rw (← c .before .before .before .before .before .before .before .before .before .before .meet .ensures, c .before .before .before .before .before .before .before .before .seed .given .1, ← c .before .before .before .before .before .before .tangent .ensures, c .before .before .before .before .enum-told2 .given .1) z)
+    let d = c .before .before .before .before .before .before in
+    let x = d .before .before in
+    let m = x .before .before in
+    let st = m .before .before in
+    let g = st .args in
+    let e = ten (g .a) (g .b) (g .tol) (g .guess) (g .n) _ (sym (m .meet .ensures) ∙ x .seed .given .1) (sym (d .tangent .ensures) ∙ c .before .before .before .before .enum-told2 .given .1) in
+    let z = c .before .before .clear2 .ensures ∙ cleared (now (g .points)) ∙ ap (λ (k : ℕ). replicate k zero) (st .pre .1) in
+    (ap (λ (o : Outcome). o .answer) e, z ∙ ap (λ (o : Outcome). o .buffer) e)
 
 eval-point-requires : tie.Need-eval-point-requires
 eval-point-requires c κs = search needs
@@ -64,10 +93,14 @@ same-length-3 : tie.Need-same-length-3
 same-length-3 c = search needs
 
 returns-3 : tie.Need-returns-3
-unfolding walkedOf
 returns-3 c =
+    let d = c .before .before .before .before .before .before .before .before in
+    let x = d .before .before in
+    let m = x .before .before in
+    let g = m .before .before .args in
+    let e = along (g .a) (g .b) (g .tol) (g .guess) (g .n) _ _ (sym (m .meet .ensures) ∙ x .seed .given .1) (sym (d .tangent .ensures) ∙ c .before .before .before .before .before .before .t .given .1) in
     let z = c .before .before .line .ensures in
-    (rw (← c .before .before .before .before .before .before .before .before .before .before .before .before .meet .ensures, c .before .before .before .before .before .before .before .before .before .before .seed .given .1, ← c .before .before .before .before .before .before .before .before .tangent .ensures, c .before .before .before .before .before .before .t .given .1) (z .0), rw (← c .before .before .before .before .before .before .before .before .before .before .before .before .meet .ensures, c .before .before .before .before .before .before .before .before .before .before .seed .given .1, ← c .before .before .before .before .before .before .before .before .tangent .ensures, c .before .before .before .before .before .before .t .given .1) (z .1))
+    (z .0 ∙ ap (λ (o : Outcome). o .answer) e, z .1 ∙ ap (λ (o : Outcome). o .buffer) e)
 
 pub walked-spec : {M : Type 1} → statement M
 walked-spec =
