@@ -1,6 +1,7 @@
 -- `stride::attempt::attempt` meets its contract: each way out has its tests, and what it calls its own. Assumes nothing.
+use mathlib.Core.Path.{_≡_}
 use borrow.Author.Needs.{needs}
-use Rattle.stride.specs.Attempt.{attemptOf}
+use Rattle.stride.specs.Attempt.{predicted, attemptOf}
 use Rattle.stride.proofs.attempt.attempt.Statement.{statement}
 use Rattle.stride.proofs.attempt.attempt.Tie as tie
 
@@ -27,11 +28,19 @@ landed-requires c κs = search needs
 
 returns : tie.Need-returns
 unfolding attemptOf
-returns c = rw (← c .before .before .before .before .before .scale .ensures, ← c .before .before .before .before .predict .ensures, ← c .before .before .before .leaving .ensures, c .before .enum-told .given .1, ← c .inner .ensures)
+returns c =
+    let q = c .before .before .before .before in
+    let g = q .before .before .before .before .args in
+    let e : q .predict .result ≡ predicted (g .a) (g .b) (g .w) (g .h) = rw (q .predict .ensures, q .before .scale .ensures) in
+    rw (← e, ← c .before .before .before .leaving .ensures, c .before .enum-told .given .1, ← c .inner .ensures)
 
 returns-2 : tie.Need-returns-2
 unfolding attemptOf
-returns-2 c = rw (← c .before .before .before .before .before .before .scale .ensures, ← c .before .before .before .before .before .predict .ensures, ← c .before .before .before .before .leaving .ensures, c .before .before .exit .given .1, ← c .landed .ensures)
+returns-2 c =
+    let q = c .before .before .before .before .before in
+    let g = q .before .before .before .before .args in
+    let e : q .predict .result ≡ predicted (g .a) (g .b) (g .w) (g .h) = rw (q .predict .ensures, q .before .scale .ensures) in
+    rw (← e, ← c .before .before .before .before .leaving .ensures, c .before .before .exit .given .1, ← c .landed .ensures)
 
 pub attempt-spec : {M : Type 1} → statement M
 attempt-spec = tie.close (tie.spec scale-requires predict-requires leaving-requires enum-told inner-requires enum-known-exit landed-requires returns returns-2)

@@ -18,7 +18,7 @@ max-requires c κs = search needs
 
 returns : tie.Need-returns
 unfolding onwardOf
-returns c = rw (← c .before .before .before .before .distance .ensures, ← c .before .before .before .turn .ensures, ← c .before .before .accepted .ensures, c .before .if1 .taken, ← c .max .ensures)
+returns c = rw (c .max .ensures, ← c .before .before .before .before .distance .ensures, ← c .before .before .before .turn .ensures, ← c .before .before .accepted .ensures, c .before .if1 .taken)
 
 returns-2 : tie.Need-returns-2
 unfolding onwardOf

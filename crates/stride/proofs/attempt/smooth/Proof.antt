@@ -9,7 +9,7 @@ max-requires c κs = search needs
 
 returns : tie.Need-returns
 unfolding smoothOf
-returns c = rw (← c .max .ensures)
+returns c = rw (c .max .ensures)
 
 pub smooth-spec : {M : Type 1} → statement M
 smooth-spec = tie.close (tie.spec max-requires returns)
