@@ -10,11 +10,11 @@ closes-requires c κs = search needs
 
 returns : tie.Need-returns
 unfolding cameRound
-returns c = rw (le-leb _ _ (c .before .if1 .taken), ← c .closes .ensures)
+returns c = rw (c .closes .ensures, le-leb 3 _ (c .before .if1 .taken))
 
 returns-2 : tie.Need-returns-2
 unfolding cameRound
-returns-2 c = rw (lt-leb _ _ (c .if1 .left))
+returns-2 c = rw (lt-leb 3 _ (c .if1 .left))
 
 pub came-round-spec : {M : Type 1} → statement M
 came-round-spec = tie.close (tie.spec closes-requires returns returns-2)

@@ -24,11 +24,11 @@ enum-told c = search needs
 
 returns : tie.Need-returns
 unfolding stepOf
-returns c = rw (← c .before .before .before .before .shorten .ensures, c .before .before .stride .given .1, ← c .inner-step .ensures)
+returns c = rw (c .inner-step .ensures, ← c .before .before .before .before .shorten .ensures, c .before .before .stride .given .1)
 
 returns-2 : tie.Need-returns-2
 unfolding stepOf
-returns-2 c = rw (← c .before .before .before .before .shorten .ensures, c .before .before .stride2 .given .1, ← c .edge-step .ensures)
+returns-2 c = rw (c .edge-step .ensures, ← c .before .before .before .before .shorten .ensures, c .before .before .stride2 .given .1)
 
 returns-3 : tie.Need-returns-3
 unfolding stepOf
