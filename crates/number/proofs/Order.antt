@@ -2,8 +2,8 @@
 -- On finite numbers the order is that of the whole numbers of units. Assumes nothing.
 use mathlib.Core.Path.{_≡_, refl, sym, ap, _∙_, subst}
 use mathlib.Core.Logic.{_⊎_, inl, inr}
-use Prim.Native.Nat.{ℕ, zero, suc, _+_, _-_, _*_, _≤_, _<_, zero-le}
-use native.Mathlib.Nat.{le-refl, le-trans, le-antisymm, mul-comm, mul-right-comm, mul-assoc, mul-le-mul-right, le-of-mul-le-mul-right, mul-pos, zero-mul, suc-mul, add-comm}
+use Prim.Native.Nat.{ℕ, zero, suc, _+_, _-_, _*_, _/_, _≤_, _<_, zero-le}
+use native.Mathlib.Nat.{le-refl, le-trans, le-antisymm, mul-comm, mul-right-comm, mul-assoc, mul-le-mul-right, le-of-mul-le-mul-right, mul-pos, zero-mul, zero-div, suc-mul, add-comm, div-mul-le-self, le-div-iff-mul-le, le-of-eq}
 use native.Mathlib.Omega.{arith}
 use mathlib.Core.Bool.{Bool, true, false, not, _&&_, _||_}
 use lib.IntN.{ℤ}
@@ -349,6 +349,43 @@ units→le (fin u m e) (fin v n d) s t a b p q h =
     Le→le u v m n e d
     (subst (λ (k : Bool). Le k (m * up e * down d) v (n * up d * down e)) (sym (p .0)) (subst (λ (k : Bool). Le s (m * up e * down d) k (n * up d * down e)) (sym (q .0))
     (Le-cross s t (m * up e) (n * up d) (down e) (down d) a b unit (down-pos e) (down-pos d) (pow-pos 1074) (p .1) (q .1) h)))
+
+-- The whole units in a number, whatever its format, keep the order of numbers; and as many units as there are in a number are at most it.
+pub le→mag : (x y : Float) → T (finite x) → T (finite y) → neg? x ≡ false → T (x ≤? y) → mag x ≤ mag y
+le→mag nan y f g s h = absurd f
+le→mag (inf u) y f g s h = absurd f
+le→mag (fin u m e) nan f g s h = absurd g
+le→mag (fin u m e) (inf v) f g s h = absurd g
+le→mag (fin u m e) (fin v n d) f g s h = go v (subst (λ (k : Bool). Le k (m * up e * down d) v (n * up d * down e)) s (le→Le u v m n e d h))
+  where
+    go : (t : Bool) → Le false (m * up e * down d) t (n * up d * down e) → m * up e * unit / down e ≤ n * up d * unit / down d
+    go false k =
+        le-div-iff-mul-le (down-pos d) .1
+        (le-of-mul-le-mul-right {k = down e}
+        (le-trans (le-of-eq (mul-right-comm (m * up e * unit / down e) (down d) (down e)))
+        (le-trans (mul-le-mul-right (down d) (div-mul-le-self (m * up e * unit) (down e)))
+        (le-trans (le-of-eq (mul-right-comm (m * up e) unit (down d)))
+        (le-trans (mul-le-mul-right unit k) (le-of-eq (mul-right-comm (n * up d) (down e) unit))))))
+        (down-pos e))
+    go true k =
+        let z = none (m * up e) (down d) (down-pos d) (omega (arith, k)) in
+        subst (λ (i : ℕ). i * unit / down e ≤ n * up d * unit / down d) (sym z) (le-trans (le-of-eq (ap (λ (i : ℕ). i / down e) (zero-mul unit) ∙ zero-div (down e))) zero-le)
+
+pub mag→le : (x y : Float) (a : ℕ) → Is x false a → T (finite y) → neg? y ≡ false → a ≤ mag y → T (x ≤? y)
+mag→le nan y a p f s h = absurd p
+mag→le (inf u) y a p f s h = absurd p
+mag→le (fin u m e) nan a p f s h = absurd f
+mag→le (fin u m e) (inf v) a p f s h = absurd f
+mag→le (fin u m e) (fin v n d) a p f s h =
+    Le→le u v m n e d
+    (subst (λ (k : Bool). Le k (m * up e * down d) v (n * up d * down e)) (sym (p .0)) (subst (λ (k : Bool). Le false (m * up e * down d) k (n * up d * down e)) (sym s) below))
+  where
+    below : m * up e * down d ≤ n * up d * down e
+    below =
+        le-of-mul-le-mul-right {k = unit}
+        (le-trans (le-of-eq (mul-right-comm (m * up e) (down d) unit ∙ ap (λ (i : ℕ). i * down d) (p .1) ∙ mul-right-comm a (down e) (down d)))
+        (le-trans (mul-le-mul-right (down e) (le-div-iff-mul-le (down-pos d) .0 h)) (le-of-eq (mul-right-comm (n * up d) unit (down e)))))
+        (pow-pos 1074)
 
 -- and so, as integers
 Le→ℤ : (s t : Bool) (a b : ℕ) → Le s a t b → T (leZ (signed s a) (signed t b))

@@ -16,8 +16,8 @@ number-requires c κs = search needs
 index-requires : tie.Need-index-requires
 index-requires c κs = search needs
 
-wrapping-add-u64-requires : tie.Need-wrapping-add-u64-requires
-wrapping-add-u64-requires c κs = search needs
+refused-word-requires : tie.Need-refused-word-requires
+refused-word-requires c κs = search needs
 
 returns : tie.Need-returns
 unfolding checkedWord
@@ -25,7 +25,7 @@ returns c = rw (c .enum-told .given .1)
 
 returns-2 : tie.Need-returns-2
 unfolding checkedWord
-returns-2 c = rw (c .before .before .before .before .answer .given .1, c .wrapping-add-u64 .ensures, c .before .index .ensures, c .before .before .number .ensures)
+returns-2 c = rw (c .before .before .before .before .answer .given .1, c .refused-word .ensures, c .before .index .ensures, c .before .before .number .ensures)
 
 pub checked-word-spec : {M : Type 1} → statement M
 checked-word-spec =
@@ -35,6 +35,6 @@ checked-word-spec =
     enum-known-answer
     number-requires
     index-requires
-    wrapping-add-u64-requires
+    refused-word-requires
     returns
     returns-2)
