@@ -12,20 +12,19 @@ use Rattle.job.specs.declared.file.JobRead.{JobRead}
 use Rattle.job.specs.declared.file.JobRead.the-variants.{Whole, Refused}
 use Rattle.job.specs.File.{jobOf}
 use Rattle.passing.proofs.Promised.{trace-promised}
-use Rattle.answer.specs.Answer.{answerLine, lentNumbers, afterReading, answerOf, jobAnswer, Tells, refused}
-use Rattle.answer.specs.Answer as says
+use Rattle.answer.specs.Answer.{answerLine, lentNumbers, afterReading, answerOf, jobAnswer, Tells, tells-refusal, tells-trace}
 
 module _ (bytes : List ℕ) where
   refused-tells : (r : Refusal) → Tells bytes (answerLine (traced.Refused r))
   unfolding answerLine
-  refused-tells r = refused r (rw number-not-0)
+  refused-tells r = tells-refusal r (rw number-not-0)
 
   traced-tells : (j : Job) → jobOf bytes ≡ Whole j → (t : Traced) → traceOf (j .a) (j .b) (j .tol) (j .guess) (j .cap) lentNumbers .answer ≡ t → Tells bytes (answerLine t)
   unfolding answerLine
   traced-tells j e (traced.Refused r) q = refused-tells r
   traced-tells j e (traced.Line count start closing) q =
       let p = trace-promised (j .a) (j .b) (j .tol) (j .guess) (j .cap) lentNumbers (sym q) refl in
-      says.traced _ count start closing refl (record { job = j; read = e; passes = p .passes refl; exact = p .exact refl })
+      tells-trace _ count start closing refl (record { job = j; read = e; passes = p .passes refl; exact = p .exact refl })
 
   pub line-tells : Tells bytes (jobAnswer bytes)
   unfolding jobAnswer answerOf

@@ -41,8 +41,8 @@ jobAnswer bytes = answerLine (answerOf bytes)
 
 -- What a line tells of a job: a refusal's number, or the count, the start's index and the code of a trace that passes under the job.
 pub data Tells (bytes line : List ℕ) : Type 0 where
-  refused : (r : Refusal) → line ≡ refusedLine (numberOf r) → Tells bytes line
-  traced : (l : List Float) (count start closing : ℕ) → line ≡ traceLine count start closing → JobPasses bytes l count start closing → Tells bytes line
+  tells-refusal : (r : Refusal) → line ≡ refusedLine (numberOf r) → Tells bytes line
+  tells-trace : (l : List Float) (count start closing : ℕ) → line ≡ traceLine count start closing → JobPasses bytes l count start closing → Tells bytes line
 
 -- the contract of `answer`; `before` and `after` are the lent bytes, r how many the line has
 pub record LinePromise (bytes before after : List ℕ) (r : ℕ) : Type 0 where

@@ -5,7 +5,7 @@ use Prim.Native.Nat.{ℕ, _+_, _*_, _/_, _%_, _^_, _≤_}
 use native.Mathlib.Omega.{arith}
 use lib.Ieee.{Float}
 use Rattle.refusal.specs.declared.Refusal.{Refusal}
-use Rattle.refusal.specs.Refusal.{numberOf}
+use Rattle.refusal.specs.Refusal.{numberOf, indexOf}
 use Rattle.refusal.proofs.Laws.{number-positive, number-small}
 use Rattle.tolerance.specs.declared.Tolerance.{Tolerance}
 use Rattle.patch.specs.declared.patch.Patch.{Patch}
@@ -14,6 +14,7 @@ use Rattle.certificate.specs.declared.check.Checked.{Checked}
 use Rattle.certificate.specs.declared.check.Checked.the-variants as checked
 use Rattle.certificate.specs.Passes.{Passes, ClosedAs, claimed-open, forward, backward}
 use Rattle.certificate.specs.Check as check
+use Rattle.certificate.proofs.Index.{check-index}
 use Rattle.walk.specs.declared.answer.Traced.{Traced}
 use Rattle.walk.specs.declared.answer.Traced.the-variants as traced
 use Rattle.job.specs.declared.file.Job.{Job}
@@ -46,6 +47,26 @@ module _ {a b : Patch} {tol : Tolerance} {guess : Parameters} {cap : ℕ} {befor
       let s = h .among in
       record { count = m; start = omega (arith, m, s); closing = code-small (h .closed) }
 
+-- so a line has
+pub line-fits : {t : Traced} {count start closing : ℕ} → t ≡ traced.Line count start closing → Bounded t → (count ≤ 4001) × ((start ≤ 4001) × (closing ≤ 2))
+line-fits e h = let b = subst Bounded e h in (b .count, (b .start, b .closing))
+
+-- the parts of a line's word
+module _ (code start count : ℕ) (h : code ≤ 2) where
+  code-part : (0 + code * 2 ^ 8 + start * 2 ^ 16 + count * 2 ^ 32) / 2 ^ 8 % 2 ^ 8 ≡ code
+  code-part =
+      let e : (0 + code * 256 + start * 65536 + count * 4294967296) / 256 ≡ code + (start + count * 65536) * 256 = omega (arith, h) in
+      rw e (omega (arith, h))
+
+  module _ (k : start ≤ 4001) where
+    start-part : (0 + code * 2 ^ 8 + start * 2 ^ 16 + count * 2 ^ 32) / 2 ^ 16 % 2 ^ 16 ≡ start
+    start-part =
+        let e : (0 + code * 256 + start * 65536 + count * 4294967296) / 65536 ≡ start + count * 65536 = omega (arith, h, k) in
+        rw e (omega (arith, k))
+
+    count-part : (0 + code * 2 ^ 8 + start * 2 ^ 16 + count * 2 ^ 32) / 2 ^ 32 ≡ count
+    count-part = omega (arith, h, k)
+
 -- a low byte of 0, so the answer is a line, and the parts read out of the word are the line's
 module _ (bytes : List ℕ) (j : Job) (read : jobOf bytes ≡ Whole j) (before after : List Float) where
   read-back : (r : Traced) → TracePromise (j .a) (j .b) (j .tol) (j .guess) (j .cap) before after r → numberIn (tracedWord r) ≡ 0
@@ -54,18 +75,13 @@ module _ (bytes : List ℕ) (j : Job) (read : jobOf bytes ≡ Whole j) (before a
   read-back (traced.Refused q) p z = absurd (unlike-zero q (let e : numberOf q % 256 ≡ 0 = omega (arith, z) in e))
   read-back (traced.Line count start closing) p z =
       let b = bounded (traced.Line count start closing) p in
-      let c1 = b .count in
       let s1 = b .start in
       let k1 = b .closing in
-      let w = 0 + closing * 2 ^ 8 + start * 2 ^ 16 + count * 2 ^ 32 in
-      let c : countIn w ≡ count = omega (arith, c1, s1, k1) in
-      let s : startIn w ≡ start = omega (arith, c1, s1, k1) in
-      let k : closingIn w ≡ closing = omega (arith, c1, s1, k1) in
-      rw (c, s, k) (record { job = j; read = read; passes = p .passes refl; exact = p .exact refl })
+      rw (count-part closing start count k1 s1, start-part closing start count k1 s1, code-part closing start count k1) (record { job = j; read = read; passes = p .passes refl; exact = p .exact refl })
 
-  pub traced-word : {q : JobRead} {r : Traced} {w : ℕ} → TracePromise (j .a) (j .b) (j .tol) (j .guess) (j .cap) before after r → w ≡ tracedWord r → TraceWord bytes before after w
+  pub traced-word : {r : Traced} {w : ℕ} → TracePromise (j .a) (j .b) (j .tol) (j .guess) (j .cap) before after r → w ≡ tracedWord r → TraceWord bytes before after w
   unfolding traceAnswer
-  traced-word {r = r} {w = w} p e =
+  traced-word {r} p e =
       record {
         answer = rw (read, ← p .answer) e;
         buffer = rw (read) (p .buffer);
@@ -83,6 +99,14 @@ traced-unread t {r = r} e f =
     }
 
 -- ---- the check's word
+
+-- what `check` answers has room in a word
+pub index-told : {a b : Patch} {tol : Tolerance} {l : List Float} (count start code : ℕ) {s : Checked} → CheckPromise a b tol l count start code s → check.indexOf s ≤ 4001
+index-told {a} {b} {tol} {l} count start code p = rw (p .answer) (check-index a b tol l count start code)
+
+-- so a refusal has
+pub refusal-fits : {s : Checked} {r : Refusal} → s ≡ checked.Refused r → check.indexOf s ≤ 4001 → indexOf r ≤ 4001
+refusal-fits e h = subst (λ (t : Checked). check.indexOf t ≤ 4001) e h
 
 word-passed : (s : Checked) → checkedWord s ≡ 0 → check.refusalOf s ≡ 0
 unfolding checkedWord

@@ -1,10 +1,7 @@
 -- `capi::geomcore_check` meets its contract: each way out has its tests, and what it calls its own. Assumes nothing.
 use mathlib.Core.Path.{sym, _∙_}
-use Prim.Native.Nat.{_≤_}
 use borrow.Author.Needs.{needs}
-use Rattle.certificate.proofs.Index.{check-index}
-use Rattle.certificate.specs.Check.{indexOf}
-use Rattle.capi.proofs.Words.{checked-word, checked-unread}
+use Rattle.capi.proofs.Words.{index-told, checked-word, checked-unread}
 use Rattle.capi.proofs.geomcore_check.Statement.{statement}
 use Rattle.capi.proofs.geomcore_check.Tie as tie
 
@@ -25,8 +22,8 @@ check-requires c κs = search needs
 
 checked-word-requires : tie.Need-checked-word-requires
 checked-word-requires c κs =
-    let e = c .before .check .ensures .answer in
-    rw e (check-index _ _ _ _ _ _ _)
+    let g = c .before .before .before .before .before .before .before .args in
+    index-told (g .count) (g .start) (g .code) (c .check .ensures)
 
 returns : tie.Need-returns
 returns c = checked-unread _ _ _ _ _ (sym (c .before .before .before .before .read .ensures) ∙ c .before .before .read2 .given .1) (c .number .ensures)

@@ -23,7 +23,7 @@ crossed-word-requires c κs = search needs
 
 returns-2 : tie.Need-returns-2
 unfolding crossingAnswer
-returns-2 c = rw (le-ltb _ _ (c .before .before .before .before .if1 .left), ← c .before .before .before .corner .ensures, ← c .before .before .corner2 .ensures, ← c .before .crossing .ensures) (c .crossed-word .ensures)
+returns-2 c = rw (le-ltb _ _ (c .before .before .before .before .if1 .left), ← c .before .before .before .corner .ensures, ← c .before .before .corner2 .ensures, ← c .before .crossing .ensures .answer) (c .crossed-word .ensures)
 
 pub geomcore-crossing-spec : {M : Type 1} → statement M
 geomcore-crossing-spec = tie.close (tie.spec returns corner-requires corner-requires-2 crossing-requires crossed-word-requires returns-2)

@@ -21,7 +21,7 @@ trace-requires : tie.Need-trace-requires
 trace-requires c κs = search needs
 
 traced-word-requires : tie.Need-traced-word-requires
-traced-word-requires c κs = bounded _ (c .before .before .before .trace .ensures)
+traced-word-requires c κs = bounded _ (c .before .before .trace .ensures)
 
 returns : tie.Need-returns
 returns c = traced-unread _ (sym (c .before .before .before .before .read .ensures) ∙ c .before .before .read2 .given .1) (c .number .ensures)

@@ -26,14 +26,14 @@ put-requires c κs = search needs
 
 returns-2 : tie.Need-returns-2
 unfolding pointOn
-returns-2 c = rw (le-ltb _ _ (c .before .before .before .before .before .if1 .left), ← c .before .before .before .before .point .ensures, c .before .before .located .given .1, ← c .number .ensures)
+returns-2 c = rw (le-ltb _ _ (c .before .before .before .before .before .if1 .left), ← c .before .before .before .before .point .ensures .answer, c .before .before .located .given .1, ← c .number .ensures)
 
 same-length : tie.Need-same-length
 same-length c = search needs
 
 returns-3 : tie.Need-returns-3
 unfolding pointOn
-returns-3 c = rw (le-ltb _ _ (c .before .before .before .before .before .before .before .before .if1 .left), ← c .before .before .before .before .before .before .before .point .ensures, c .before .before .before .before .before .located2 .given .1, ← c .before .before .put .ensures)
+returns-3 c = rw (le-ltb _ _ (c .before .before .before .before .before .before .before .before .if1 .left), ← c .before .before .before .before .before .before .before .point .ensures .answer, c .before .before .before .before .before .located2 .given .1, ← c .before .before .put .ensures)
 
 pub point-on-spec : {M : Type 1} → statement M
 point-on-spec =
