@@ -22,12 +22,12 @@ ghost use Rattle.capi.specs.Point.{put3, pointOn, pointAnswer};
 ghost use Rattle.capi.specs.Trace.{tracedWord, Bounded, TraceWord};
 ghost use Rattle.fdlibm.specs.Arctangent.{atan2Of};
 ghost use Rattle.fdlibm.specs.Sine.{sinOf, cosOf};
-ghost use Rattle.sqrt.specs.Sqrt.{sqrtOf};
+ghost use Rattle.sqrt.specs.Sqrt.{SqrtGives};
 
 // The square root, correctly rounded.
 #[no_mangle]
 pub extern "C" fn geomcore_sqrt(x: f64) -> f64
-    ensures { λ r. ⌜ r ≡ sqrtOf x ⌝ }
+    ensures { λ r. ⌜ SqrtGives x r ⌝ }
 {
     sqrt::sqrt(x)
 }
