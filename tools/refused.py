@@ -27,7 +27,7 @@ import sys
 # Strong: the prover shows what is unequal, what is left to prove, or values at which it is false. (Of two needs that differ the code's shape
 # is another, and nothing is shown.)
 STRONG = {
-    'unequal goal': re.compile(r'the two types (?:first differ|differ only|are)\b(?!.*\bNeed-)'),
+    'unequal goal': re.compile(r'the two types (?:first differ|differ only|are)\b(?!.*\bNeed-)|≟ `.*`: does not hold'),
     'unequal type': re.compile(r'expected type `(?!tie\.Need-)'),
     'goal left by rewriting': re.compile(r'give a proof of that as the last argument'),
     'counterexample': re.compile(r'All of that holds, and the (?:goal|part) fails, at'),
@@ -112,7 +112,7 @@ def main():
         if wrong:
             missing.append(f'{crate}/{label}: {wrong}')
             continue
-        log = open(path, encoding='utf-8').read().split('\n')
+        log = open(path, encoding='utf-8').read().replace('\n  ≟ ', ' ≟ ').split('\n')
         for name, proof in answers:
             function = '::'.join([crate] + proof.split('/'))
             found = refusal(log, function, proof)
