@@ -35,9 +35,9 @@ repository() {
     echo 0 | tee "$room/fmt" >"$room/status"
     echo 'number:' >"$room/repository/crates.txt"
     printf 'pub fn half(x: u64) -> u64\n    ensures { r }\n{\n    x / 2\n}\n' >"$room/repository/crates/number/src/lib.rt"
-    for third in one two; do
-        printf 'wrong: %s\nproof: half\nfile: src/lib.rt\nold: 2\nnew: 3\n' "$third" >"$room/repository/crates/number/must-fail/$third.edit"
-        said "$third" 'the goal: computed as far as they go, the two types are a and b'
+    for edit in one two; do
+        printf 'wrong: %s\nproof: half\nfile: src/lib.rt\nold: 2\nnew: 3\n' "$edit" >"$room/repository/crates/number/must-fail/$edit.edit"
+        said "$edit" 'the goal: computed as far as they go, the two types are a and b'
     done
     printf 'logic=proved functions=1 sum=0123 logic-built=trusted\n3 passed, 0 failed\n' >"$room/ci"
 }
