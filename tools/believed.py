@@ -1,10 +1,11 @@
 #!/usr/bin/env python3
-"""believed.py [--heads]: what a reader of the contracts must believe, found in the tree.
+"""believed.py [--heads] [FILE..]: what a reader of the contracts must believe, found in the tree.
 
-It starts from what the contracts of the public calls import (`ghost use` in the sources of geomcore, capi and answer) and follows the `use`
-lines of every definition reached. It prints, as tables: the project's files of definitions with their lines (all lines of the file, blank
-ones and imports among them); the structs and enums of the code that they speak of; the kit's modules that they use, with the names used.
-Files under specs/ that no public contract reaches are named last. --heads prints the first sentence of each file instead.
+It starts from what the contracts of the public calls import (`ghost use` in the sources of geomcore, capi and answer), or from the files of
+definitions named, and follows the `use` lines of every definition reached. It prints, as tables: the project's files of definitions with
+their lines (all lines of the file, blank ones and imports among them); the structs and enums of the code that they speak of; the kit's
+modules that they use, with the names used. Files under specs/ that are not reached are named last. --heads prints the first sentence of each
+file instead.
 """
 import glob
 import re
@@ -39,10 +40,10 @@ def place(module):
     return "file", str(file)
 
 
-def reached():
-    """Files, types and the kit's modules (module: names, and how many files use it) that the public contracts reach."""
-    files, types, kit = set(), set(), defaultdict(lambda: (set(), set()))
-    todo = [path for crate in PUBLIC for path in sorted(glob.glob(f"crates/{crate}/src/*.rt"))]
+def reached(named):
+    """Files, types and the kit's modules (module: names, and the files that use it) that the files named reach, or the public contracts."""
+    files, types, kit = set(named), set(), defaultdict(lambda: (set(), set()))
+    todo = list(named) or [path for crate in PUBLIC for path in sorted(glob.glob(f"crates/{crate}/src/*.rt"))]
     while todo:
         path = todo.pop()
         for module, names in imports(path):
@@ -76,13 +77,14 @@ def crates_in_order():
 
 
 def main():
-    files, types, kit = reached()
-    if sys.argv[1:] == ["--heads"]:
+    heads, named = "--heads" in sys.argv[1:], [word for word in sys.argv[1:] if word != "--heads"]
+    if not all(Path(word).is_file() for word in named):
+        sys.exit(__doc__)
+    files, types, kit = reached(named)
+    if heads:
         for path in sorted(files):
             print(f"{path} ({lines(path)}): {head(path)}")
         return
-    if sys.argv[1:]:
-        sys.exit(__doc__)
     by_crate = defaultdict(list)
     for path in sorted(files):
         by_crate[path.split("/")[1]].append(path)
