@@ -85,25 +85,25 @@ impl std::error::Error for Refusal {}
 /// The square root, correctly rounded.
 pub fn sqrt(x: f64) -> f64 {
     // SAFETY: numbers in, a number out.
-    guarded(|| unsafe { geomcore_sqrt(x) })
+    guarded(move || unsafe { geomcore_sqrt(x) })
 }
 
 /// fdlibm's sine of an angle in radians; a NaN beyond reach.
 pub fn sin(x: f64) -> f64 {
     // SAFETY: as above.
-    guarded(|| unsafe { geomcore_sin(x) })
+    guarded(move || unsafe { geomcore_sin(x) })
 }
 
 /// fdlibm's cosine of an angle in radians; a NaN beyond reach.
 pub fn cos(x: f64) -> f64 {
     // SAFETY: as above.
-    guarded(|| unsafe { geomcore_cos(x) })
+    guarded(move || unsafe { geomcore_cos(x) })
 }
 
 /// fdlibm's angle of the point (x, y), in radians.
 pub fn atan2(y: f64, x: f64) -> f64 {
     // SAFETY: as above.
-    guarded(|| unsafe { geomcore_atan2(y, x) })
+    guarded(move || unsafe { geomcore_atan2(y, x) })
 }
 
 /// The point at (u, v) of a surface given by its 146 bytes of the job file.

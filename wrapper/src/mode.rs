@@ -46,13 +46,25 @@ fn with_fit_mode(mut work: &mut dyn FnMut()) {
     }
 }
 
+/// The call in the mode that is fit. It takes the call by value, so that nothing of it needs to be in memory where the mode is fit already.
+#[cold]
+#[inline(never)]
+fn in_fit_mode<T: Default>(call: impl FnOnce() -> T) -> T {
+    let (mut call, mut answer) = (Some(call), T::default());
+    with_fit_mode(&mut || {
+        if let Some(call) = call.take() {
+            answer = call();
+        }
+    });
+    answer
+}
+
 /// The answer of a call in the mode that is fit; the host's mode stands again afterwards, flags included. Where the mode is fit already it
 /// costs a read and a comparison.
-pub(crate) fn guarded<T: Default>(mut call: impl FnMut() -> T) -> T {
+pub(crate) fn guarded<T: Default>(call: impl FnOnce() -> T) -> T {
     if mode_fit() {
-        return call();
+        call()
+    } else {
+        in_fit_mode(call)
     }
-    let mut answer = T::default();
-    with_fit_mode(&mut || answer = call());
-    answer
 }
