@@ -3,9 +3,9 @@
 
 Prints what it asks of the linker, and a bound on the stack of each function that it exports: frames and return addresses summed along the
 worst chain of calls, with the 128 bytes below its frame that a function may use which calls nothing; not what the C functions that it calls
-use beyond their return address. Ends with 1 if there is writable data, a call whose target does not stand in the
-code, a chain of calls that comes back to itself, a fixed address in the code, an x87 instruction, or one that changes MXCSR: then a sentence
-of docs/TRUST.md, "Limits", is not true.
+use beyond their return address. Ends with 1 if there is writable data, a call whose target does not stand in the code, a chain of calls that
+comes back to itself, a fixed address in the code, an x87 or fused instruction, or one that changes MXCSR: then a sentence of docs/TRUST.md,
+"Limits", is not true.
 """
 import re
 import subprocess
@@ -71,7 +71,7 @@ def functions(archive):
                     odd.append(f"{name}: a call through a pointer")
                 elif inside and inside[1] != name:
                     calls[name].add(inside[1])
-            elif re.match(r"f(?!x)", last) or last in ("ldmxcsr", "vldmxcsr", "fxrstor", "xrstor"):
+            elif re.match(r"f|vfn?m", last) or last in ("ldmxcsr", "vldmxcsr", "xrstor"):
                 odd.append(f"{name}: {last}")
     return frame, calls, odd
 
@@ -97,7 +97,7 @@ def main():
             print(f"{name}: at most {bound(name, frame, calls)} bytes of stack")
         except RecursionError as back:
             odd.append(f"{name}: a chain of calls that comes back to {back}")
-    print("\n".join(odd) or "no writable data, no call through a pointer, no chain that comes back, no fixed address, no x87, MXCSR left alone")
+    print("\n".join(odd) or "no writable data, no call through a pointer, no chain that comes back, no fixed address, no x87, nothing fused, MXCSR left alone")
     sys.exit(1 if odd else 0)
 
 
