@@ -1,13 +1,24 @@
-/* The proved line where two analytic surfaces meet: the C interface of the archive that `rt staticlib capi` writes.
+/* The proved line where two analytic surfaces meet: the C interface of the archive that `rt staticlib capi` writes (x86-64 Linux).
  *
- * A slice passes as a pointer and a length, the pointer not null even where the length is 0. What is lent as `const` is not written; lent
- * slices must not overlap. No call demands anything else of its input: what is unfit is refused under a number (docs/RULES.md), and a
- * refused call writes nothing unless said here. Every NaN counts as one. */
+ * Units: lengths are in kilometres, angles in radians (docs/RULES.md says which number is which).
+ *
+ * What is unfit is refused under a number (docs/RULES.md), and a refused call writes nothing unless said here. Every NaN counts as one.
+ * A call demands of its input only what C cannot say (docs/TRUST.md):
+ *   - A slice passes as a pointer and a length: not null, aligned for its type, good for that many elements. With length 0 it is not read,
+ *     but still not null and aligned.
+ *   - What is lent as `const` is not written, and `const` slices may overlap each other; `out` and `buffer` of a trace must overlap
+ *     nothing else that the call is given. No thread may write what is lent before the call returns.
+ *   - The calling thread's floating-point mode (MXCSR) rounds to nearest, flushes nothing to zero and has every trap masked. A program
+ *     starts so; -ffast-math in any part linked, fesetround or feenableexcept change it, and then answers differ and lines that the check
+ *     would refuse are traced. geomcore_mode_fit, geomcore_mode_set and geomcore_mode_restore below ask for it, set it and put it back.
+ *   - Stack: GEOMCORE_STACK_BYTES are enough for any call (measured, not proved).
+ * The archive has no state and no writable data: any number of threads may call at once. */
 #ifndef GEOMCORE_H
 #define GEOMCORE_H
 
 #include <stddef.h>
 #include <stdint.h>
+#include <xmmintrin.h>
 
 #ifdef __cplusplus
 extern "C" {
@@ -17,12 +28,37 @@ extern "C" {
 #define GEOMCORE_SURFACE_BYTES 146
 #define GEOMCORE_JOB_BYTES 347
 
-double geomcore_sqrt(double x);
-double geomcore_sin(double x); /* a NaN beyond reach: docs/RULES.md */
-double geomcore_cos(double x);
-double geomcore_atan2(double y, double x);
+/* More than a call was seen to use of the stack (tools/limits.sh measures it). */
+#define GEOMCORE_STACK_BYTES 8192
 
-/* The point at (u, v) of a surface given by its 146 bytes: 0, and x, y, z in the first three numbers of out; or the refusal's number.
+/* MXCSR but for the flags that operations leave: as a program starts, and the bits that say so. */
+#define GEOMCORE_MODE 0x1f80u
+#define GEOMCORE_MODE_BITS 0xffc0u
+
+/* Whether this thread rounds to nearest, flushes nothing to zero and has every trap masked. */
+static inline int geomcore_mode_fit(void) { return (_mm_getcsr() & GEOMCORE_MODE_BITS) == GEOMCORE_MODE; }
+
+/* Sets that mode, if it is not set, and gives what stood before, to be put back after the calls. */
+static inline unsigned geomcore_mode_set(void) {
+    unsigned before = _mm_getcsr();
+    if ((before & GEOMCORE_MODE_BITS) != GEOMCORE_MODE)
+        _mm_setcsr(GEOMCORE_MODE);
+    return before;
+}
+
+/* Puts back what geomcore_mode_set gave; the flags of the calls between are lost if the mode was another. */
+static inline void geomcore_mode_restore(unsigned before) {
+    if ((before & GEOMCORE_MODE_BITS) != GEOMCORE_MODE)
+        _mm_setcsr(before);
+}
+
+double geomcore_sqrt(double x);
+double geomcore_sin(double x); /* of an angle in radians; a NaN beyond reach: docs/RULES.md */
+double geomcore_cos(double x);
+double geomcore_atan2(double y, double x); /* the angle of the point (x, y), in radians */
+
+/* The point at (u, v) of a surface given by its 146 bytes (more may follow): 0, and x, y, z in the first three numbers of out; or the
+ * refusal's number.
  * Tested in this order: 19 for bytes that are no surface, 8 for fewer than three numbers lent, 1 to 4, 6; a refusal writes nothing. */
 uint64_t geomcore_point(const uint8_t *surface, size_t bytes, double u, double v, double *out, size_t room);
 

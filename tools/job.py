@@ -7,7 +7,7 @@
     y 0 1 0
     z 0 0 1
     radius 2                      cylinder and sphere: radius; cone: radius, angle; torus: major, minor
-    u 0 6.25                      the windows, low and high
+    u 0 6.25                      the windows, low and high; here u is an angle and v a length
     v -inf inf
     turn u                        u has a period (v of a torus too: turn u v), so its window is not applied
     surface B plane               the second surface, likewise
@@ -17,6 +17,9 @@
     angular 1e-12
     guess 0.15 0 0.15 0           u, v on A, then on B
     cap 500                       steps each way
+
+Lengths are in kilometres, angles in radians: the cone's 'angle', u of all but the plane, v of the sphere and the torus. A note on standard
+error says where an angle looks like degrees; the file is written all the same.
 
 A number is decimal (0.3, -1e-12, inf, nan), a power of two (2^-20, -2^3) or 16 hexadecimal digits of bits (bits:3fd3333333333333).
 '#' starts a comment. TEXT may be - for standard input. Nothing is judged here that the tracer refuses by a number of its own.
@@ -28,6 +31,7 @@ import sys
 
 KINDS = {"plane": (0, []), "cylinder": (1, ["radius"]), "cone": (2, ["radius", "angle"]), "sphere": (3, ["radius"]),
          "torus": (4, ["major", "minor"])}
+ANGLES = ["", "u", "u", "uv", "uv"]  # which parameters are angles, by the kind's number
 UNIT = {"origin": (0.0, 0.0, 0.0), "x": (1.0, 0.0, 0.0), "y": (0.0, 1.0, 0.0), "z": (0.0, 0.0, 1.0)}
 SIZES = {name for _, names in KINDS.values() for name in names}
 
@@ -145,6 +149,31 @@ def job(text):
     return struct.pack(">I", len(body)) + body
 
 
+def angles(data):
+    """The angles of a job file: a name, the number, and the magnitude above which it looks like degrees. In radians a window spans a turn
+    at most and a guess lies in it, so two turns from 0 (12.57) leave room; most windows in degrees end farther out. A cone's semi-angle
+    must be below 1.5 (refusal 2)."""
+    def at(place):
+        return struct.unpack(">d", data[place:place + 8])[0]
+
+    for k, start in enumerate((5, 151)):
+        who, kind = "AB"[k], data[start]
+        if kind == KINDS["cone"][0]:
+            yield f"surface {who}: angle", at(start + 106), 1.5
+        for axis in ANGLES[kind]:
+            j = "uv".index(axis)
+            for side, place in (("low", start + 114 + 16 * j), ("high", start + 122 + 16 * j)):
+                yield f"surface {who}: {axis}, {side} end", at(place), 4 * math.pi
+            yield f"guess: {axis} on {who}", at(313 + 16 * k + 8 * j), 4 * math.pi
+
+
+def notes(data):
+    """What looks like degrees. An infinite end is a window without end."""
+    for name, value, most in angles(data):
+        if most < abs(value) < math.inf:
+            yield f"note: {name} is {value:g}; angles are in radians (that many degrees are {math.radians(value):.6g})"
+
+
 def main():
     if len(sys.argv) not in (2, 3) or sys.argv[1] in ("-h", "--help"):
         print(__doc__, file=sys.stderr)
@@ -152,6 +181,8 @@ def main():
     try:
         text = sys.stdin.read() if sys.argv[1] == "-" else open(sys.argv[1], encoding="utf-8").read()
         data = job(text)
+        for note in notes(data):
+            print(f"job.py: {sys.argv[1]}: {note}", file=sys.stderr)
         if len(sys.argv) == 3:
             with open(sys.argv[2], "wb") as out:
                 out.write(data)

@@ -1,7 +1,16 @@
-//! Safe calls of the proved code in the archive that `rt staticlib capi` writes. No dependencies.
+//! Safe calls of the proved code in the archive that `rt staticlib capi` writes (x86-64 Linux). No dependencies.
 //!
-//! Unfit input is refused under a number (docs/RULES.md) and never panics. Surfaces and jobs are the bytes of the job file, which
-//! `tools/job.py` writes from readable text.
+//! Lengths are in kilometres, angles in radians (docs/RULES.md says which number is which). Unfit input is refused under a number
+//! (docs/RULES.md) and never panics. Surfaces and jobs are the bytes of the job file, which `tools/job.py` writes from readable text.
+//!
+//! The proofs speak of a thread that rounds to nearest, flushes nothing to zero and has every trap masked. Each call reads the thread's
+//! mode (MXCSR) and, where it is another, sets it for the call and puts the host's back: the same bits come out whatever the host has set.
+//! Any number of threads may call at once. docs/TRUST.md says what is proved and what is believed.
+
+mod mode;
+
+use mode::guarded;
+pub use mode::mode_fit;
 
 extern "C" {
     fn geomcore_sqrt(x: f64) -> f64;
@@ -76,32 +85,32 @@ impl std::error::Error for Refusal {}
 /// The square root, correctly rounded.
 pub fn sqrt(x: f64) -> f64 {
     // SAFETY: numbers in, a number out.
-    unsafe { geomcore_sqrt(x) }
+    guarded(move || unsafe { geomcore_sqrt(x) })
 }
 
-/// fdlibm's sine; a NaN beyond reach.
+/// fdlibm's sine of an angle in radians; a NaN beyond reach.
 pub fn sin(x: f64) -> f64 {
     // SAFETY: as above.
-    unsafe { geomcore_sin(x) }
+    guarded(move || unsafe { geomcore_sin(x) })
 }
 
-/// fdlibm's cosine; a NaN beyond reach.
+/// fdlibm's cosine of an angle in radians; a NaN beyond reach.
 pub fn cos(x: f64) -> f64 {
     // SAFETY: as above.
-    unsafe { geomcore_cos(x) }
+    guarded(move || unsafe { geomcore_cos(x) })
 }
 
-/// fdlibm's angle of the point (x, y).
+/// fdlibm's angle of the point (x, y), in radians.
 pub fn atan2(y: f64, x: f64) -> f64 {
     // SAFETY: as above.
-    unsafe { geomcore_atan2(y, x) }
+    guarded(move || unsafe { geomcore_atan2(y, x) })
 }
 
 /// The point at (u, v) of a surface given by its 146 bytes of the job file.
 pub fn point(surface: &[u8], u: f64, v: f64) -> Result<[f64; 3], Refusal> {
     let mut out = [0.0; 3];
     // SAFETY: each pointer comes with the length of what it was taken from; the callee keeps neither and writes `out` alone.
-    let word = unsafe {
+    let word = guarded(|| unsafe {
         geomcore_point(
             surface.as_ptr(),
             surface.len(),
@@ -110,7 +119,7 @@ pub fn point(surface: &[u8], u: f64, v: f64) -> Result<[f64; 3], Refusal> {
             out.as_mut_ptr(),
             out.len(),
         )
-    };
+    });
     Refusal::of(word, 0).map_or(Ok(out), Err)
 }
 
@@ -138,8 +147,9 @@ pub const fn room(cap: u16) -> usize {
 /// Walks the line that a job file asks for over the lent numbers.
 pub fn trace(job: &[u8], buffer: &mut [f64]) -> Result<Line, Refusal> {
     // SAFETY: each pointer comes with the length of what it was taken from; the callee keeps neither and writes `buffer` alone.
-    let word =
-        unsafe { geomcore_trace(job.as_ptr(), job.len(), buffer.as_mut_ptr(), buffer.len()) };
+    let word = guarded(|| unsafe {
+        geomcore_trace(job.as_ptr(), job.len(), buffer.as_mut_ptr(), buffer.len())
+    });
     if let Some(refusal) = Refusal::of(word, 0) {
         return Err(refusal);
     }
@@ -159,7 +169,7 @@ pub fn trace(job: &[u8], buffer: &mut [f64]) -> Result<Line, Refusal> {
 /// Whether a line passes the check against the surfaces and tolerance of a job file; its guess and cap aren't read.
 pub fn check(job: &[u8], buffer: &[f64], line: Line) -> Result<(), Refusal> {
     // SAFETY: each pointer comes with the length of what it was taken from; the callee keeps neither and writes nothing.
-    let word = unsafe {
+    let word = guarded(|| unsafe {
         geomcore_check(
             job.as_ptr(),
             job.len(),
@@ -169,7 +179,7 @@ pub fn check(job: &[u8], buffer: &[f64], line: Line) -> Result<(), Refusal> {
             line.start as u64,
             line.closing as u64,
         )
-    };
+    });
     Refusal::of(word, (word >> 32) as u32).map_or(Ok(()), Err)
 }
 
@@ -184,7 +194,7 @@ pub fn crossing(
 ) -> Result<bool, Refusal> {
     let corners = [low[0], low[1], low[2], high[0], high[1], high[2]];
     // SAFETY: each pointer comes with the length of what it was taken from; the callee keeps neither and writes nothing.
-    let word = unsafe {
+    let word = guarded(|| unsafe {
         geomcore_crossing(
             confusion,
             angular,
@@ -194,6 +204,6 @@ pub fn crossing(
             corners.as_ptr(),
             corners.len(),
         )
-    };
+    });
     Refusal::of(word, 0).map_or(Ok(word & 0x100 != 0), Err)
 }

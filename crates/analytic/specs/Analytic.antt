@@ -5,7 +5,7 @@ use Rattle.fdlibm.specs.Sine.{sinOf, cosOf}
 use Rattle.geometry.specs.declared.point.Point3D.{Point3D}
 use Rattle.vector.specs.declared.Vector3D.{Vector3D}
 use Rattle.geometry.specs.declared.frame.Frame3D.{Frame3D}
-use Rattle.vector.specs.Vector.{addOf, scaleOf}
+use Rattle.vector.specs.Vector.{addOf, timesOf}
 use Rattle.geometry.specs.Frame.{pointAtOf}
 use Rattle.analytic.specs.declared.analytic.Derivatives.{Derivatives}
 
@@ -42,8 +42,8 @@ torusD0 f maj min u v = pointAtOf f (torusRadius maj min v ⊗ cosOf u) (torusRa
 -- ---- first derivatives: `*_derivative` at (1, 0), then at (0, 1)
 
 -- a number times one direction and another times a second, added
-abbrev along : Vector3D → Float → Vector3D → Float → Vector3D
-along p a q b = addOf (scaleOf p a) (scaleOf q b)
+abbrev along : Float → Vector3D → Float → Vector3D → Vector3D
+along a p b q = addOf (timesOf a p) (timesOf b q)
 
 -- plane_derivative
 unfoldable pub planeDerivatives : Frame3D → Derivatives
@@ -51,25 +51,25 @@ planeDerivatives f = record { u = f .x; v = f .y }
 
 -- cylinder_derivative: -a2 * x + a1 * y, and z
 unfoldable pub cylinderDerivatives : Frame3D → Float → Float → Derivatives
-cylinderDerivatives f r u = record { u = along (f .x) (neg (r ⊗ sinOf u)) (f .y) (r ⊗ cosOf u); v = f .z }
+cylinderDerivatives f r u = record { u = along (neg (r ⊗ sinOf u)) (f .x) (r ⊗ cosOf u) (f .y); v = f .z }
 
 -- cone_derivative: -r * su * x + r * cu * y, and sin(semi-angle) * (cu * x + su * y) + cos(semi-angle) * z
 unfoldable pub coneDerivatives : Frame3D → Float → Float → Float → Float → Derivatives
 coneDerivatives f r a u v = record {
-  u = along (f .x) (neg (coneRadius r a v) ⊗ sinOf u) (f .y) (coneRadius r a v ⊗ cosOf u);
-  v = along (along (f .x) (cosOf u) (f .y) (sinOf u)) (sinOf a) (f .z) (cosOf a);
+  u = along (neg (coneRadius r a v) ⊗ sinOf u) (f .x) (coneRadius r a v ⊗ cosOf u) (f .y);
+  v = along (sinOf a) (along (cosOf u) (f .x) (sinOf u) (f .y)) (cosOf a) (f .z);
 }
 
 -- sphere_derivative: rcv * (-su * x + cu * y), and -r * sv * (cu * x + su * y) + rcv * z
 unfoldable pub sphereDerivatives : Frame3D → Float → Float → Float → Derivatives
 sphereDerivatives f r u v = record {
-  u = scaleOf (along (f .x) (neg (sinOf u)) (f .y) (cosOf u)) (r ⊗ cosOf v);
-  v = along (along (f .x) (cosOf u) (f .y) (sinOf u)) (neg r ⊗ sinOf v) (f .z) (r ⊗ cosOf v);
+  u = timesOf (r ⊗ cosOf v) (along (neg (sinOf u)) (f .x) (cosOf u) (f .y));
+  v = along (neg r ⊗ sinOf v) (along (cosOf u) (f .x) (sinOf u) (f .y)) (r ⊗ cosOf v) (f .z);
 }
 
 -- torus_derivative: r * (-su * x + cu * y), and -min * sv * (cu * x + su * y) + min * cv * z
 unfoldable pub torusDerivatives : Frame3D → Float → Float → Float → Float → Derivatives
 torusDerivatives f maj min u v = record {
-  u = scaleOf (along (f .x) (neg (sinOf u)) (f .y) (cosOf u)) (torusRadius maj min v);
-  v = along (along (f .x) (cosOf u) (f .y) (sinOf u)) (neg min ⊗ sinOf v) (f .z) (min ⊗ cosOf v);
+  u = timesOf (torusRadius maj min v) (along (neg (sinOf u)) (f .x) (cosOf u) (f .y));
+  v = along (neg min ⊗ sinOf v) (along (cosOf u) (f .x) (sinOf u) (f .y)) (min ⊗ cosOf v) (f .z);
 }

@@ -5,7 +5,7 @@ use walk::Traced;
 ghost use mathlib.Core.Path.{_≡_};
 ghost use lib.ListN.{length};
 ghost use Rattle.line.specs.Line.{written};
-ghost use Rattle.answer.specs.Answer.{answerLine, answerOf, jobAnswer};
+ghost use Rattle.answer.specs.Answer.{answerLine, answerOf, LinePromise};
 
 // Puts the answer's line at the front of the lent bytes; how many it has.
 fn put_line(answer: Traced, line: &mut [u8; LINE]) -> usize
@@ -40,9 +40,9 @@ fn answer_of(input: &[u8]) -> Traced
     }
 }
 
-// Puts the line that answers a job file at the front of the lent bytes; how many it has.
+// Puts the line that answers a job file at the front of the lent bytes; how many it has. It is a `trace` line only of a line that passes.
 pub fn answer(input: &[u8], line: &mut [u8; LINE]) -> usize
-    ensures { λ r. ⌜ (r ≡ length (jobAnswer (now (input .entry)))) × (now (line .exit) ≡ written (jobAnswer (now (input .entry))) (now (line .entry))) ⌝ }
+    ensures { λ r. ⌜ LinePromise (now (input .entry)) (now (line .entry)) (now (line .exit)) r ⌝ }
 {
     put_line(answer_of(input), line)
 }

@@ -1,27 +1,144 @@
--- The answer words hold their parts apart: no sum of them is cut off. Assumes nothing.
-use mathlib.Core.Path.{_≡_}
-use Prim.Native.Nat.{ℕ, _+_, _*_, _%_, _^_, _≤_, _<_}
-use native.Mathlib.Nat.{mod-eq-of-lt}
+-- The words hold their parts apart, and 0 means that nothing is refused. Assumes nothing.
+use mathlib.Core.Path.{_≡_, refl, sym, ap, _∙_, subst}
+use mathlib.Core.List.{List}
+use Prim.Native.Nat.{ℕ, _+_, _*_, _/_, _%_, _^_, _≤_}
 use native.Mathlib.Omega.{arith}
+use lib.Ieee.{Float}
 use Rattle.refusal.specs.declared.Refusal.{Refusal}
 use Rattle.refusal.specs.Refusal.{numberOf, indexOf}
+use Rattle.refusal.proofs.Laws.{number-positive, number-small}
+use Rattle.tolerance.specs.declared.Tolerance.{Tolerance}
+use Rattle.patch.specs.declared.patch.Patch.{Patch}
+use Rattle.patch.specs.declared.patch.Parameters.{Parameters}
+use Rattle.certificate.specs.declared.check.Checked.{Checked}
 use Rattle.certificate.specs.declared.check.Checked.the-variants as checked
+use Rattle.certificate.specs.Passes.{Passes, ClosedAs, claimed-open, forward, backward}
+use Rattle.certificate.specs.Check as check
+use Rattle.certificate.proofs.Index.{check-index}
+use Rattle.walk.specs.declared.answer.Traced.{Traced}
 use Rattle.walk.specs.declared.answer.Traced.the-variants as traced
-use Rattle.capi.specs.Trace.{tracedWord}
-use Rattle.capi.specs.Check.{checkedWord}
+use Rattle.job.specs.declared.file.Job.{Job}
+use Rattle.job.specs.declared.file.JobRead.{JobRead}
+use Rattle.job.specs.declared.file.JobRead.the-variants.{Whole, Refused}
+use Rattle.job.specs.File.{jobOf}
+use Rattle.passing.specs.Promises.{JobPasses, TracePromise, CheckPromise}
+use Rattle.capi.specs.Answer.{numberIn, closingIn, startIn, countIn}
+use Rattle.capi.specs.Check.{checkedWord, checkAnswer, CheckWord}
+use Rattle.capi.specs.Trace.{tracedWord, Bounded, traceAnswer, TraceWord}
 
-small : (n : ℕ) → n < 18446744073709551616 → n % 2 ^ 64 ≡ n
-small n h = mod-eq-of-lt {n = n} {m = 18446744073709551616} h
+-- a refusal's number fills the low byte, and is not 0
+unlike-zero : (r : Refusal) → numberOf r % 256 ≡ 0 → ⊥
+unlike-zero r e = let a = number-positive r in let b = number-small r in omega (arith, a, b, e)
 
--- number + 2^8 code + 2^16 start + 2^32 count, for every trace whose parts are within 01's bounds
-pub traced-word : (count start code : ℕ) → count ≤ 4001 → start < count → code ≤ 2
-    → tracedWord (traced.Line count start code) ≡ code * 256 + start * 65536 + count * 4294967296
-unfolding tracedWord
-traced-word count start code h k m =
-    rw (small (code * 256) (omega arith), small (start * 65536) (omega arith), small (count * 4294967296) (omega arith), small (code * 256 + start * 65536) (omega arith), small (code * 256 + start * 65536 + count * 4294967296) (omega arith))
+-- ---- the trace's word
 
--- number + 2^32 index, for every index below 01's greatest count
-pub checked-word : (r : Refusal) → numberOf r < 256 → indexOf r ≤ 4001
-    → checkedWord (checked.Refused r) ≡ numberOf r + indexOf r * 4294967296
+code-small : {l : List Float} {count start closing : ℕ} → ClosedAs l count start closing → closing ≤ 2
+code-small (claimed-open e) = omega (arith, e)
+code-small (forward e s q) = omega (arith, e)
+code-small (backward e s q) = omega (arith, e)
+
+module _ {a b : Patch} {tol : Tolerance} {guess : Parameters} {cap : ℕ} {before after : List Float} where
+  -- what `trace` answers has room in a word
+  pub bounded : (r : Traced) → TracePromise a b tol guess cap before after r → Bounded r
+  bounded (traced.Refused q) p = record { count = omega arith; start = omega arith; closing = omega arith }
+  bounded (traced.Line count start closing) p =
+      let h = p .passes refl in
+      let m = h .most in
+      let s = h .among in
+      record { count = m; start = omega (arith, m, s); closing = code-small (h .closed) }
+
+-- so a line has
+pub line-fits : {t : Traced} {count start closing : ℕ} → t ≡ traced.Line count start closing → Bounded t → (count ≤ 4001) × ((start ≤ 4001) × (closing ≤ 2))
+line-fits e h = let b = subst Bounded e h in (b .count, (b .start, b .closing))
+
+-- the parts of a line's word
+module _ (code start count : ℕ) (h : code ≤ 2) where
+  code-part : (0 + code * 2 ^ 8 + start * 2 ^ 16 + count * 2 ^ 32) / 2 ^ 8 % 2 ^ 8 ≡ code
+  code-part =
+      let e : (0 + code * 256 + start * 65536 + count * 4294967296) / 256 ≡ code + (start + count * 65536) * 256 = omega (arith, h) in
+      rw e (omega (arith, h))
+
+  module _ (k : start ≤ 4001) where
+    start-part : (0 + code * 2 ^ 8 + start * 2 ^ 16 + count * 2 ^ 32) / 2 ^ 16 % 2 ^ 16 ≡ start
+    start-part =
+        let e : (0 + code * 256 + start * 65536 + count * 4294967296) / 65536 ≡ start + count * 65536 = omega (arith, h, k) in
+        rw e (omega (arith, k))
+
+    count-part : (0 + code * 2 ^ 8 + start * 2 ^ 16 + count * 2 ^ 32) / 2 ^ 32 ≡ count
+    count-part = omega (arith, h, k)
+
+-- a low byte of 0, so the answer is a line, and the parts read out of the word are the line's
+module _ (bytes : List ℕ) (j : Job) (read : jobOf bytes ≡ Whole j) (before after : List Float) where
+  read-back : (r : Traced) → TracePromise (j .a) (j .b) (j .tol) (j .guess) (j .cap) before after r → numberIn (tracedWord r) ≡ 0
+      → JobPasses bytes after (countIn (tracedWord r)) (startIn (tracedWord r)) (closingIn (tracedWord r))
+  unfolding tracedWord
+  read-back (traced.Refused q) p z = absurd (unlike-zero q (let e : numberOf q % 256 ≡ 0 = omega (arith, z) in e))
+  read-back (traced.Line count start closing) p z =
+      let b = bounded (traced.Line count start closing) p in
+      let s1 = b .start in
+      let k1 = b .closing in
+      rw (count-part closing start count k1 s1, start-part closing start count k1 s1, code-part closing start count k1) (record { job = j; read = read; passes = p .passes refl; exact = p .exact refl })
+
+  pub traced-word : {r : Traced} {w : ℕ} → TracePromise (j .a) (j .b) (j .tol) (j .guess) (j .cap) before after r → w ≡ tracedWord r → TraceWord bytes before after w
+  unfolding traceAnswer
+  traced-word {r} p e =
+      record {
+        answer = rw (read, ← p .answer) e;
+        buffer = rw (read) (p .buffer);
+        passes = rw e (read-back r p);
+      }
+
+-- a job that can't be read
+pub traced-unread : {bytes : List ℕ} (t : List Float) {w : ℕ} {r : Refusal} → jobOf bytes ≡ Refused r → w ≡ numberOf r → TraceWord bytes t t w
+unfolding traceAnswer
+traced-unread t {r = r} e f =
+    record {
+      answer = rw e f;
+      buffer = rw e refl;
+      passes = λ z. absurd (unlike-zero r (ap (λ (n : ℕ). n % 256) (sym f) ∙ z));
+    }
+
+-- ---- the check's word
+
+-- what `check` answers has room in a word
+pub index-told : {a b : Patch} {tol : Tolerance} {l : List Float} (count start code : ℕ) {s : Checked} → CheckPromise a b tol l count start code s → check.indexOf s ≤ 4001
+index-told {a} {b} {tol} {l} count start code p = rw (p .answer) (check-index a b tol l count start code)
+
+-- so a refusal has
+pub refusal-fits : {s : Checked} {r : Refusal} → s ≡ checked.Refused r → check.indexOf s ≤ 4001 → indexOf r ≤ 4001
+refusal-fits e h = subst (λ (t : Checked). check.indexOf t ≤ 4001) e h
+
+word-passed : (s : Checked) → checkedWord s ≡ 0 → check.refusalOf s ≡ 0
 unfolding checkedWord
-checked-word r h k = rw (small (indexOf r * 4294967296) (omega arith), small (numberOf r + indexOf r * 4294967296) (omega arith))
+word-passed s e = omega (arith, e)
+
+passed-word : (s : Checked) → check.refusalOf s ≡ 0 → checkedWord s ≡ 0
+unfolding checkedWord
+passed-word checked.Passed e = refl
+passed-word (checked.Refused r) e = let h = number-positive r in absurd (omega (arith, h, e))
+
+abbrev jobIn : Job → JobRead → Job
+jobIn d (Whole j) = j
+jobIn d (Refused r) = d
+
+module _ (bytes : List ℕ) (l : List Float) (count start code : ℕ) where
+  pub checked-word : {j : Job} {s : Checked} {w : ℕ} → jobOf bytes ≡ Whole j → CheckPromise (j .a) (j .b) (j .tol) l count start code s → w ≡ checkedWord s
+      → CheckWord bytes l count start code w
+  unfolding checkAnswer
+  checked-word {j} {s} e p f =
+      record {
+        answer = rw (e, ← p .answer) f;
+        passes = λ z. let n = word-passed s (sym f ∙ z) in record { job = j; read = e; passes = p .passes n; exact = p .exact n };
+        complete = λ q.
+            let same : q .job ≡ j = ap (jobIn j) (sym (q .read)) ∙ ap (jobIn j) e in
+            f ∙ passed-word s (p .complete (subst (λ (k : Job). Passes (k .a) (k .b) (k .tol) l count start code) same (q .passes)));
+      }
+
+  pub checked-unread : {r : Refusal} {w : ℕ} → jobOf bytes ≡ Refused r → w ≡ numberOf r → CheckWord bytes l count start code w
+  unfolding checkAnswer
+  checked-unread {r} e f =
+      record {
+        answer = rw e f;
+        passes = λ z. let h = number-positive r in absurd (omega (arith, h, sym f ∙ z));
+        complete = λ q. let same : Whole (q .job) ≡ Refused r = sym (q .read) ∙ e in let z : _≡_ {A = ℕ} 0 1 = cc in absurd (omega arith);
+      }

@@ -1,6 +1,6 @@
--- What a call that writes numbers answers. Definitions only.
+-- What a call that writes numbers answers, and the parts of an answer's word (include/geomcore.h). Definitions only.
 use mathlib.Core.List.{List}
-use Prim.Native.Nat.{ℕ, _+_, _*_, _%_, _^_}
+use Prim.Native.Nat.{ℕ, _/_, _%_, _^_}
 use lib.Ieee.{Float}
 
 -- the answer's word, and the lent numbers afterwards
@@ -12,10 +12,18 @@ pub record Answer : Type 0 where
 abbrev pub answered : ℕ → List Float → Answer
 answered w l = record { word = w; numbers = l }
 
--- a sum in a word of 64 bits
-abbrev pub plus : ℕ → ℕ → ℕ
-plus a b = (a + b) % 2 ^ 64
+-- the low byte of a word: the refusal's number, 0 if none
+abbrev pub numberIn : ℕ → ℕ
+numberIn w = w % 2 ^ 8
 
--- a shift to the left in such a word
-abbrev pub shifted : ℕ → ℕ → ℕ
-shifted a k = a * 2 ^ k % 2 ^ 64
+-- the byte above it: the closing code
+abbrev pub closingIn : ℕ → ℕ
+closingIn w = w / 2 ^ 8 % 2 ^ 8
+
+-- the two bytes above that: the start's index
+abbrev pub startIn : ℕ → ℕ
+startIn w = w / 2 ^ 16 % 2 ^ 16
+
+-- the four bytes above that: the count
+abbrev pub countIn : ℕ → ℕ
+countIn w = w / 2 ^ 32

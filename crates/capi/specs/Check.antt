@@ -1,6 +1,7 @@
 -- The check's word. Definitions only.
+use mathlib.Core.Path.{_≡_}
 use mathlib.Core.List.{List}
-use Prim.Native.Nat.{ℕ}
+use Prim.Native.Nat.{ℕ, _+_, _*_, _^_}
 use lib.Ieee.{Float}
 use Rattle.refusal.specs.Refusal.{numberOf}
 use Rattle.certificate.specs.declared.check.Checked.{Checked}
@@ -8,11 +9,11 @@ use Rattle.certificate.specs.Check.{refusalOf, indexOf, checkOf}
 use Rattle.job.specs.declared.file.JobRead.{JobRead}
 use Rattle.job.specs.declared.file.JobRead.the-variants.{Whole, Refused}
 use Rattle.job.specs.File.{jobOf}
-use Rattle.capi.specs.Answer.{plus, shifted}
+use Rattle.passing.specs.Promises.{JobPasses}
 
 -- the refusal's number + 2^32 times the index of the point that 13 to 16 name (include/geomcore.h)
 unfoldable pub checkedWord : Checked → ℕ
-checkedWord answer = plus (refusalOf answer) (shifted (indexOf answer) 32)
+checkedWord answer = refusalOf answer + indexOf answer * 2 ^ 32
 
 -- 19, or the check against the job that was read
 abbrev pub afterReading : JobRead → List Float → ℕ → ℕ → ℕ → ℕ
@@ -22,3 +23,10 @@ afterReading (Whole j) l count start code = checkedWord (checkOf (j .a) (j .b) (
 -- the job's guess and cap are not read
 unfoldable pub checkAnswer : List ℕ → List Float → ℕ → ℕ → ℕ → ℕ
 checkAnswer bytes l count start code = afterReading (jobOf bytes) l count start code
+
+-- the contract of `geomcore_check`: "a check passes a trace exactly when 01's conditions hold", by this road too
+pub record CheckWord (bytes : List ℕ) (l : List Float) (count start code w : ℕ) : Type 0 where
+  pub answer : w ≡ checkAnswer bytes l count start code
+  -- the word is 0 exactly when the bytes are a job and the trace passes under it; its exact gaps are small then
+  pub passes : w ≡ 0 → JobPasses bytes l count start code
+  pub complete : JobPasses bytes l count start code → w ≡ 0

@@ -1,22 +1,26 @@
 -- The trace's word and the lent numbers after it. Definitions only.
+use mathlib.Core.Path.{_≡_}
 use mathlib.Core.List.{List}
-use Prim.Native.Nat.{ℕ}
-use lib.Dec.{eqb}
+use Prim.Native.Nat.{ℕ, _+_, _*_, _^_, _≤_}
 use lib.Ieee.{Float}
-use Rattle.loops.specs.Loop.{pick}
 use Rattle.refusal.specs.Refusal.{numberOf}
 use Rattle.walk.specs.declared.answer.Traced.{Traced}
 use Rattle.walk.specs.Trace.{Outcome, refusalOf, countOf, startOf, closingOf, traceOf}
 use Rattle.job.specs.declared.file.JobRead.{JobRead}
 use Rattle.job.specs.declared.file.JobRead.the-variants.{Whole, Refused}
 use Rattle.job.specs.File.{jobOf}
-use Rattle.capi.specs.Answer.{Answer, answered, plus, shifted}
+use Rattle.passing.specs.Promises.{JobPasses}
+use Rattle.capi.specs.Answer.{Answer, answered, numberIn, closingIn, startIn, countIn}
 
--- the refusal's number, or 2^8 times the closing code + 2^16 times the start's index + 2^32 times the count (include/geomcore.h)
+-- the refusal's number + 2^8 times the closing code + 2^16 times the start's index + 2^32 times the count (include/geomcore.h)
 unfoldable pub tracedWord : Traced → ℕ
-tracedWord t =
-    pick (eqb (refusalOf t) 0) (plus (plus (shifted (closingOf t) 8) (shifted (startOf t) 16)) (shifted (countOf t) 32))
-    (refusalOf t)
+tracedWord t = refusalOf t + closingOf t * 2 ^ 8 + startOf t * 2 ^ 16 + countOf t * 2 ^ 32
+
+-- each part of an answer has room in its place of the word
+pub record Bounded (t : Traced) : Type 0 where
+  pub count : countOf t ≤ 4001
+  pub start : startOf t ≤ 4001
+  pub closing : closingOf t ≤ 2
 
 -- the answer as a word, and the buffer
 abbrev pub outcomeAnswer : Outcome → Answer
@@ -30,3 +34,10 @@ afterReading (Whole j) t = outcomeAnswer (traceOf (j .a) (j .b) (j .tol) (j .gue
 -- by the 347 bytes of a job file; the lent buffer may have any length
 unfoldable pub traceAnswer : List ℕ → List Float → Answer
 traceAnswer bytes t = afterReading (jobOf bytes) t
+
+-- the contract of `geomcore_trace`; `before` and `after` are the lent buffer
+pub record TraceWord (bytes : List ℕ) (before after : List Float) (w : ℕ) : Type 0 where
+  pub answer : w ≡ traceAnswer bytes before .word
+  pub buffer : after ≡ traceAnswer bytes before .numbers
+  -- a low byte of 0: the line in the buffer passes with the count, start and code read out of the word, and its exact gaps are small
+  pub passes : numberIn w ≡ 0 → JobPasses bytes after (countIn w) (startIn w) (closingIn w)

@@ -12,21 +12,22 @@ use patch::Patch;
 use tolerance::Tolerance;
 use walk::Traced;
 ghost use mathlib.Core.Path.{_≡_};
-ghost use Prim.Native.Nat.{_+_, _≤_};
+ghost use Prim.Native.Nat.{_+_, _*_, _≤_};
 ghost use lib.ListN.{length};
 ghost use Rattle.capi.specs.Answer.{answered};
-ghost use Rattle.capi.specs.Check.{checkedWord, checkAnswer};
+ghost use Rattle.certificate.specs.Check.{indexOf};
+ghost use Rattle.capi.specs.Check.{checkedWord, CheckWord};
 ghost use Rattle.capi.specs.Crossing.{crossedWord, cornerAt, crossingAnswer};
 ghost use Rattle.capi.specs.Point.{put3, pointOn, pointAnswer};
-ghost use Rattle.capi.specs.Trace.{tracedWord, traceAnswer};
+ghost use Rattle.capi.specs.Trace.{tracedWord, Bounded, TraceWord};
 ghost use Rattle.fdlibm.specs.Arctangent.{atan2Of};
 ghost use Rattle.fdlibm.specs.Sine.{sinOf, cosOf};
-ghost use Rattle.sqrt.specs.Sqrt.{sqrtOf};
+ghost use Rattle.sqrt.specs.Sqrt.{SqrtGives};
 
 // The square root, correctly rounded.
 #[no_mangle]
 pub extern "C" fn geomcore_sqrt(x: f64) -> f64
-    ensures { λ r. ⌜ r ≡ sqrtOf x ⌝ }
+    ensures { λ r. ⌜ SqrtGives x r ⌝ }
 {
     sqrt::sqrt(x)
 }
@@ -95,24 +96,30 @@ pub extern "C" fn geomcore_point(surface: &[u8], u: f64, v: f64, out: &mut [f64]
     }
 }
 
-// The answer's word: the refusal's number, or 2^8 times the code, 2^16 times the start's index and 2^32 times the count. Each has its
-// own place in the word: a count is at most 4001.
+// The word of a line: 2^8 times the code, 2^16 times the start's index and 2^32 times the count.
+fn line_word(count: usize, start: usize, code: usize) -> u64
+    requires { ⌜ (count ≤ 4001) × ((start ≤ 4001) × (code ≤ 2)) ⌝ }
+    ensures { λ r. ⌜ r ≡ code * 256 + start * 65536 + count * 4294967296 ⌝ }
+{
+    (code as u64) * 256 + (start as u64) * 65536 + (count as u64) * 4294967296
+}
+
+// The answer's word: the refusal's number, or the line's word. Each part has its own place in it: a count is at most 4001.
 fn traced_word(answer: Traced) -> u64
+    requires { ⌜ Bounded answer ⌝ }
     ensures { λ r. ⌜ r ≡ tracedWord answer ⌝ }
 {
     match answer {
-        Traced::Line(count, start, code) => {
-            let low = std::num::wrapping_add_u64((code as u64) << 8, (start as u64) << 16);
-            std::num::wrapping_add_u64(low, (count as u64) << 32)
-        }
+        Traced::Line(count, start, code) => line_word(count, start, code),
         Traced::Refused(refusal) => refusal.number(),
     }
 }
 
-// Walks the line that a job file asks for over the lent numbers, which may be any.
+// Walks the line that a job file asks for over the lent numbers, which may be any. A low byte of 0 means that the line in the buffer passes
+// the check, with the count, start and code of the word.
 #[no_mangle]
 pub extern "C" fn geomcore_trace(job: &[u8], buffer: &mut [f64]) -> u64
-    ensures { λ r. ⌜ answered r (now (buffer .exit)) ≡ traceAnswer (now (job .entry)) (now (buffer .entry)) ⌝ }
+    ensures { λ r. ⌜ TraceWord (now (job .entry)) (now (buffer .entry)) (now (buffer .exit)) r ⌝ }
 {
     let read = job::file::read(job);
     match read {
@@ -128,19 +135,27 @@ pub extern "C" fn geomcore_trace(job: &[u8], buffer: &mut [f64]) -> u64
     }
 }
 
-// The answer's word: the refusal's number, and 2^32 times the index of the point that it names.
+// The word of a refusal: its number, and 2^32 times the index of the point that it names.
+fn refused_word(number: u64, index: u64) -> u64
+    requires { ⌜ (number ≤ 255) × (index ≤ 4001) ⌝ }
+    ensures { λ r. ⌜ r ≡ number + index * 4294967296 ⌝ }
+{
+    number + index * 4294967296
+}
+
+// The answer's word: 0, or the refusal's word.
 fn checked_word(answer: Checked) -> u64
+    requires { ⌜ indexOf answer ≤ 4001 ⌝ }
     ensures { λ r. ⌜ r ≡ checkedWord answer ⌝ }
 {
     match answer {
         Checked::Passed => 0,
-        Checked::Refused(refusal) => {
-            std::num::wrapping_add_u64(refusal.number(), refusal.index() << 32)
-        }
+        Checked::Refused(refusal) => refused_word(refusal.number(), refusal.index()),
     }
 }
 
-// Checks a claimed trace against the surfaces and tolerance of a job file; its guess and cap aren't read.
+// Checks a claimed trace against the surfaces and tolerance of a job file; its guess and cap aren't read. The word is 0 exactly when the
+// bytes are a job and the trace passes.
 #[no_mangle]
 pub extern "C" fn geomcore_check(
     job: &[u8],
@@ -149,7 +164,7 @@ pub extern "C" fn geomcore_check(
     start: u64,
     code: u64,
 ) -> u64
-    ensures { λ r. ⌜ r ≡ checkAnswer (now (job .entry)) (now (buffer .entry)) count start code ⌝ }
+    ensures { λ r. ⌜ CheckWord (now (job .entry)) (now (buffer .entry)) count start code r ⌝ }
 {
     let read = job::file::read(job);
     match read {

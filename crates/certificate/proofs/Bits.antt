@@ -17,7 +17,7 @@ use Rattle.geometry.specs.declared.frame.Frame3D.{Frame3D}
 use Rattle.vector.specs.Vector.{scaleOf}
 use Rattle.geometry.specs.Point.{addVectorOf}
 use Rattle.geometry.specs.Frame.{pointAtOf}
-use Rattle.gap.proofs.Gap.{PointFits}
+use Rattle.gap.specs.Gap.{PointFits}
 use Rattle.analytic.specs.declared.surface.Surface.{Surface}
 use Rattle.analytic.specs.declared.surface.Surface.the-variants.{Plane, Cylinder, Cone, Sphere, Torus}
 use Rattle.analytic.specs.Analytic.{planeD0, cylinderD0, coneD0, sphereD0, torusD0}

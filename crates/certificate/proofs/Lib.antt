@@ -1,3 +1,4 @@
 pub mod Turns
 pub mod Bits
 pub mod Passed
+pub mod Index

@@ -241,6 +241,12 @@ module _ (a b : Patch) (tol : Tolerance) (l : List Float) (count start closing :
   unfolding claimAnswer
   claim-lent e f = holds-length width l count (before-stages (fitnessOf a) (fitnessOf b) (toleranceFit tol) (holdsOf width l count) (claimSo l count start closing) (sym e ∙ f) .3)
 
+  pub claim-count : {s : Checked} → s ≡ claimAnswer a b tol l count start closing → s ≡ Passed → count ≤ 4001
+  unfolding claimAnswer
+  claim-count e f =
+      let b = before-stages (fitnessOf a) (fitnessOf b) (toleranceFit tol) (holdsOf width l count) (claimSo l count start closing) (sym e ∙ f) in
+      claimed l count start closing (holds-length width l count (b .3)) (b .4) .1
+
   pub answered : {s r : Checked} → s ≡ claimAnswer a b tol l count start closing → s ≡ Passed → r ≡ pointsAnswer a b (tol .confusion) l count closing → r ≡ checkOf a b tol l count start closing
   unfolding checkOf
   answered e f g = rw (← e, f) g
@@ -273,8 +279,3 @@ module _ (a b : Patch) (tol : Tolerance) (l : List Float) (count start closing :
       let c = closed-is l count start closing (p .lent) (let h = p .least in omega arith) (p .among) (p .closed) in
       rw (p .fitA, p .fitB, is-true (toleranceFit tol) (p .tolerance), le-leb _ _ (p .lent), le-ltb _ _ (p .least), le-ltb _ _ (p .most), lt-ltb _ _ (p .among), c)
       (pass-points a b tol l count closing (p .points) (λ i h z k. p .chords i z h k))
-
-  -- what `check`'s contract says follows from its equation
-  pub settled : Binary64 l → {r : Checked} → r ≡ checkOf a b tol l count start closing
-      → (r ≡ checkOf a b tol l count start closing) × (r ≡ Passed → Passes a b tol l count start closing) × (Passes a b tol l count start closing → r ≡ Passed)
-  settled d e = (e, λ q. checked-passes d (sym e ∙ q), λ p. e ∙ passes-checked p)

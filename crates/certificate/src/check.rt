@@ -11,8 +11,7 @@ ghost use mathlib.Core.Path.{_≡_};
 ghost use Prim.Native.Nat.{_+_, _*_, _≤_, _<_};
 ghost use lib.ListN.{length};
 ghost use Rattle.groups.specs.Groups.{width};
-ghost use Rattle.certificate.specs.declared.check.Checked.the-variants.{Passed};
-ghost use Rattle.certificate.specs.Passes.{parametersAt, closingChord, Passes};
+ghost use Rattle.certificate.specs.Passes.{parametersAt, closingChord};
 ghost use Rattle.certificate.specs.Check.{finitePoint, samePoint, ownOf, pointAnswer, chordFits, answerAt, pointsAnswer, sameRow, closingSo, claimSo, claimAnswer, checkOf};
 
 // The answer of the public check.
@@ -289,7 +288,7 @@ pub fn check(
     start: usize,
     closing: usize,
 ) -> Checked
-    ensures { λ r. ⌜ (r ≡ checkOf a b tol (now (trace .entry)) count start closing) × (r ≡ Passed → Passes a b tol (now (trace .entry)) count start closing) × (Passes a b tol (now (trace .entry)) count start closing → r ≡ Passed) ⌝ }
+    ensures { λ r. ⌜ r ≡ checkOf a b tol (now (trace .entry)) count start closing ⌝ }
 {
     let claim = claim_answer(a, b, tol, trace, count, start, closing);
     match claim {

@@ -12,23 +12,20 @@ use lib.Pow.{pow-add, pow-pos, pow-mono, shl-lt, shr-lt}
 use lib.Ieee.{Float, nan, inf, fin, binary64, up, down, odd, ofFields, toBits, fits, isNan, toUnsigned}
 use lib.Ieee.Fits.{down-pos}
 use lib.Ieee.Exact.{HasValue, odd-sign}
+use lib.Ieee.Nearest.{div-same}
 use Rattle.fdlibm.proofs.Fields.{at, normal, fields}
 
 abbrev pub most : ℕ
 most = 2 ^ 31 - 1
 
 -- ---- from the value
-same-fraction : (n d a c : ℕ) → 0 < d → 0 < c → n * c ≡ a * d → n / d ≡ a / c
-same-fraction n d a c D C h =
-    sym (mul-div-mul-right n d C) ∙ ap (λ (k : ℕ). k / (d * c)) h ∙ ap (λ (k : ℕ). a * d / k) (mul-comm d c) ∙ mul-div-mul-right a c D
-
 cut : (x : Float) (a c : ℕ) → 0 < c → HasValue x false a c → toUnsigned 31 x ≡ min (a / c) most
 unfolding toUnsigned
 cut nan a c C h = absurd h
 cut (inf s) a c C h = absurd h
 cut (fin s m e) a c C h =
     ap (λ (k : Bool). cond k 0 (min (m * up e / down e) most)) (h .0)
-    ∙ ap (λ (k : ℕ). min k most) (same-fraction (m * up e) (down e) a c (down-pos e) C (h .1))
+    ∙ ap (λ (k : ℕ). min k most) (div-same (m * up e) (down e) a c (down-pos e) C (h .1))
 
 cut-negative : (x : Float) (a c : ℕ) → HasValue x true a c → toUnsigned 31 x ≡ 0
 unfolding toUnsigned

@@ -2,9 +2,9 @@
 -- c * c * (1 + 2 ^ -50). Assumes nothing.
 use mathlib.Core.Path.{_≡_, refl, sym, ap, _∙_, subst}
 use Prim.Native.Nat.{ℕ, _+_, _-_, _*_, _^_, _≤_}
-use native.Mathlib.Nat.{le-trans, le-of-eq, le-add-right, not-le-of-lt}
+use native.Mathlib.Nat.{le-trans}
 use native.Mathlib.Omega.{arith}
-use mathlib.Core.Bool.{Bool, true, false, _&&_}
+use mathlib.Core.Bool.{true, false, _&&_}
 use lib.IntN.{natAbs, _-ℤ_}
 use lib.Dec.{T, lit≤}
 use lib.Pow.{pow-pos}
@@ -19,16 +19,16 @@ use Rattle.number.proofs.Rounding.{whole-over}
 use Rattle.number.proofs.Finite.{add-finite, sub-finite, mul-finite}
 use Rattle.number.proofs.Symmetry.{square-swap}
 use Rattle.number.proofs.Sums.{apart-is}
-use Rattle.number.proofs.Order.{le→units}
+use Rattle.number.proofs.Order.{le→mag}
 use Rattle.sqrt.specs.Sqrt.{sqrtOf}
 use Rattle.sqrt.proofs.AtMost.{squared, sum-over}
-use Rattle.sqrt.proofs.Laws.{UnderRoot, sqrt-le-finite, sqrt-rooted, sqrt-sign, sqrt-fits}
+use Rattle.sqrt.proofs.Laws.{UnderRoot, sqrt-le-finite, sqrt-rooted, sqrt-sign}
 use Rattle.geometry.specs.declared.point.Point3D.{Point3D}
 use Rattle.tolerance.specs.declared.Tolerance.{Tolerance}
 use Rattle.tolerance.specs.Tolerance.{leastConfusion, toleranceFit}
 use Rattle.vector.specs.Vector.{squareMagnitudeOf, magnitudeOf}
 use Rattle.geometry.specs.Point.{distanceOf, fromOf, squareOf, exactSquare}
-use Rattle.gap.specs.Gap.{ExactlyWithin}
+use Rattle.gap.specs.Gap.{PointFits, PointFinite, ExactlyWithin}
 use Rattle.gap.proofs.Chain.{chain, final}
 
 -- ---- the order of the two points
@@ -109,7 +109,7 @@ module _ (ax ay az bx by bz c : Float) (hc : T (finite c)) (l : T (sqrtOf (squar
   finite-z : T (finite az) × T (finite bz)
   finite-z = sub-finite az bz (mul-finite dz dz (last-two .1) .0)
 
-  module _ (fax : T (fits binary64 ax)) (fay : T (fits binary64 ay)) (faz : T (fits binary64 az)) (fbx : T (fits binary64 bx)) (fby : T (fits binary64 by)) (fbz : T (fits binary64 bz)) (fc : T (fits binary64 c)) (nc : neg? c ≡ false) (big : 2 ^ 1034 ≤ mag c) where
+  module _ (fax : T (fits binary64 ax)) (fay : T (fits binary64 ay)) (faz : T (fits binary64 az)) (fbx : T (fits binary64 bx)) (fby : T (fits binary64 by)) (fbz : T (fits binary64 bz)) (big : 2 ^ 1034 ≤ mag c) where
     law : 2 ^ 50 * (squareOf (between ax bx) + squareOf (between ay by) + squareOf (between az bz)) ≤ (2 ^ 50 + 1) * (mag c * mag c)
     unfolding squares
     law =
@@ -121,28 +121,15 @@ module _ (ax ay az bx by bz c : Float) (hc : T (finite c)) (l : T (sqrtOf (squar
         let ns = not-neg s (mag s) (e2 .0) in
         let fs = add-fits binary64 s1 (dz ⊗ dz) in
         let g = sqrt-rooted s fs (under .finite-x) ns in
-        let vg : Is (sqrtOf s) false (mag (sqrtOf s)) = subst (λ (t : Bool). Is (sqrtOf s) t (mag (sqrtOf s))) (sqrt-sign s fs (under .finite-x) ns) (whole (sqrtOf s) (sqrt-fits s fs) (under .finite-root)) in
-        let v : Is c false (mag c) = subst (λ (t : Bool). Is c t (mag c)) nc (whole c fc hc) in
         let total = squareOf (between ax bx) + squareOf (between ay by) + squareOf (between az bz) in
         eighth total (mag c * mag c)
         (final total (mag c) big
         (chain (between ax bx) (between ay by) (between az bz) (mag dx) (mag dy) (mag dz) (mag (dx ⊗ dx)) (mag (dy ⊗ dy)) (mag (dz ⊗ dz)) (mag s1) (mag s) (mag (sqrtOf s)) (mag c) (2 ^ 53) (2 ^ 53 - 1) unit (2 ^ 52)
         (lit≤ tt)
         (difference-over ax bx fax fbx (mul-finite dx dx (first-two .0) .0)) (difference-over ay by fay fby (mul-finite dy dy (first-two .1) .0)) (difference-over az bz faz fbz (mul-finite dz dz (last-two .1) .0))
-        (px .over) (py .over) (pz .over) (e1 .1) (e2 .1) (g .over) (le→units (sqrtOf s) c false false (mag (sqrtOf s)) (mag c) vg v l)))
+        (px .over) (py .over) (pz .over) (e1 .1) (e2 .1) (g .over) (le→mag (sqrtOf s) c (under .finite-root) hc (sqrt-sign s fs (under .finite-x) ns) l)))
 
 -- ---- for two points
-
--- the coordinates fit binary64, as those of every point of a program do
-pub record PointFits (p : Point3D) : Type 0 where
-  pub x-fits : T (fits binary64 (p .x))
-  pub y-fits : T (fits binary64 (p .y))
-  pub z-fits : T (fits binary64 (p .z))
-
-pub record PointFinite (p : Point3D) : Type 0 where
-  pub x-finite : T (finite (p .x))
-  pub y-finite : T (finite (p .y))
-  pub z-finite : T (finite (p .z))
 
 exact-is : (p q : Point3D) → exactSquare p q ≡ squareOf (between (p .x) (q .x)) + squareOf (between (p .y) (q .y)) + squareOf (between (p .z) (q .z))
 unfolding exactSquare
@@ -164,31 +151,34 @@ gap-finite p q c h l =
     let z = finite-z (p .x) (p .y) (p .z) (q .x) (q .y) (q .z) c h t in
     (record { x-finite = x .0; y-finite = y .0; z-finite = z .0 }, record { x-finite = x .1; y-finite = y .1; z-finite = z .1 })
 
--- a number between 2 ^ -40 and 1 is finite, and 2 ^ 1034 units at least
+-- a number between 2 ^ -40 and 1 is finite, and has 2 ^ 1034 whole units at least and `unit` at most, whatever its format
 pub finite-between : (c : Float) → T (leastConfusion ≤? c) → T (c ≤? one) → T (finite c)
 finite-between nan a b = unfold le in absurd b
 finite-between (inf true) a b = unfold ofBits le in absurd a
 finite-between (inf false) a b = unfold ofBits le in absurd b
 finite-between (fin t m e) a b = tt
 
-least-is : Is leastConfusion false (2 ^ 1034)
-unfolding ofBits
-least-is = (refl, refl)
+pub least-under : (c : Float) → T (finite c) → T (leastConfusion ≤? c) → 2 ^ 1034 ≤ mag c
+least-under c h low = le-trans least (le→mag leastConfusion c (unfold ofBits in tt) h (unfold ofBits in refl) low)
+  where
+    least : 2 ^ 1034 ≤ mag leastConfusion
+    least = unfold ofBits in lit≤ tt
 
-pub large : (c : Float) (t : Bool) → Is c t (mag c) → T (leastConfusion ≤? c) → (t ≡ false) × (2 ^ 1034 ≤ mag c)
-large c false v low = (refl, le→units leastConfusion c false false (2 ^ 1034) (mag c) least-is v low)
-large c true v low = absurd (not-le-of-lt (pow-pos 1034) (le-trans (le-add-right (2 ^ 1034) (mag c)) (le-of-eq (le→units leastConfusion c false true (2 ^ 1034) (mag c) least-is v low))))
+pub under-one : (c : Float) → T (finite c) → neg? c ≡ false → T (c ≤? one) → mag c ≤ unit
+under-one c h s high = le-trans (le→mag c one h (unfold ofBits in tt) s high) most
+  where
+    most : mag one ≤ unit
+    most = unfold ofBits in lit≤ tt
 
 -- THE EXACT-GAP THEOREM. Take any two points with coordinates of binary64, and any c from 2 ^ -40 to 1. If the gap that the computer works out is at most c,
 -- then 2 ^ 50 times the exact squared gap is at most 2 ^ 50 + 1 times c squared, all as whole numbers of units of 2 ^ -1074 (squared):
 -- however the nine roundings fall, the true gap exceeds c by less than one part in 2 ^ 51.
-pub exact-gap : (p q : Point3D) (c : Float) → PointFits p → PointFits q → T (fits binary64 c) → T (leastConfusion ≤? c) → T (c ≤? one) → T (distanceOf p q ≤? c)
+pub exact-gap : (p q : Point3D) (c : Float) → PointFits p → PointFits q → T (leastConfusion ≤? c) → T (c ≤? one) → T (distanceOf p q ≤? c)
     → ExactlyWithin p q c
-exact-gap p q c fp fq fc low high l =
+exact-gap p q c fp fq low high l =
     let h = finite-between c low high in
-    let b = large c (neg? c) (whole c fc h) low in
     subst (λ (k : ℕ). 2 ^ 50 * k ≤ (2 ^ 50 + 1) * (mag c * mag c)) (sym (exact-is p q))
-    (law (p .x) (p .y) (p .z) (q .x) (q .y) (q .z) c h (turned p q c l) (fp .x-fits) (fp .y-fits) (fp .z-fits) (fq .x-fits) (fq .y-fits) (fq .z-fits) fc (b .0) (b .1))
+    (law (p .x) (p .y) (p .z) (q .x) (q .y) (q .z) c h (turned p q c l) (fp .x-fits) (fp .y-fits) (fp .z-fits) (fq .x-fits) (fq .y-fits) (fq .z-fits) (least-under c h low))
 
 -- ---- refusal 5, taken apart
 pub fit-tolerance : (t : Tolerance) → T (toleranceFit t) → T (leastConfusion ≤? t .confusion) × T (t .confusion ≤? one)

@@ -6,29 +6,14 @@ use patch::Parameters;
 use patch::Patch;
 use tolerance::Tolerance;
 use walk::Traced;
-ghost use mathlib.Core.Path.{_≡_};
-ghost use lib.Dec.{T};
-ghost use lib.Ieee.{binary64, fits};
-ghost use Rattle.patch.specs.Located.{locatedOf};
-ghost use Rattle.boxes.specs.Crossing.{crossingOf};
-ghost use Rattle.walk.specs.Trace.{refusalOf, countOf, startOf, closingOf, traceOf};
-ghost use Rattle.certificate.specs.declared.check.Checked.the-variants.{Passed};
-ghost use Rattle.certificate.specs.Check.{checkOf};
-ghost use Rattle.certificate.specs.Passes.{Passes};
+ghost use Rattle.passing.specs.Promises.{PointPromise, TracePromise, CheckPromise, CrossingPromise};
 
 // The point of a surface at (u, v). Refused: 1 to 4 for an unfit surface, then 6 for a parameter that is not finite. The windows are not
 // applied.
 pub fn point(patch: Patch, u: f64, v: f64) -> Located
-    ensures { λ r. ⌜ r ≡ locatedOf patch u v ⌝ }
+    ensures { λ r. ⌜ PointPromise patch u v r ⌝ }
 {
     patch::point::point(patch, u, v)
-}
-
-// What a number handed over as itself is known to be: a binary64 number.
-fn known(x: f64) -> bool
-    ensures { λ r. ⌜ T (fits binary64 x) ⌝ }
-{
-    true
 }
 
 // The line where A and B meet, through the meeting that the guess leads to, by at most `cap` steps forward and as many backward.
@@ -40,7 +25,8 @@ fn known(x: f64) -> bool
 // The buffer: refusals before 9 touch nothing. 9, 10 and 11 leave its first 7 (2 cap + 1) numbers zero. A line stands at its front, zeros
 // follow up to 7 (2 cap + 1), and nothing beyond changes.
 //
-// Every line that it answers passes the check.
+// Every line that it answers passes the check, and at each of its points the exact squared gap is at most confusion squared times
+// (1 + 2^-50).
 pub fn trace(
     a: Patch,
     b: Patch,
@@ -49,17 +35,16 @@ pub fn trace(
     cap: usize,
     buffer: &mut [f64],
 ) -> Traced
-    ensures { λ r. ⌜ (r ≡ traceOf a b tol guess cap (now (buffer .entry)) .answer) × ((now (buffer .exit) ≡ traceOf a b tol guess cap (now (buffer .entry)) .buffer) × (refusalOf r ≡ 0 → Passes a b tol (now (buffer .exit)) (countOf r) (startOf r) (closingOf r))) ⌝ }
+    ensures { λ r. ⌜ TracePromise a b tol guess cap (now (buffer .entry)) (now (buffer .exit)) r ⌝ }
 {
-    let confusion = tol.confusion;
-    let _ = known(confusion);
     walk::trace::trace(a, b, tol, guess, cap, &mut *buffer)
 }
 
 // Whether the trace of `count` points at the front of the list is one of A and B: passed exactly when `Passes` holds. Refused, in this
 // order: 1 to 4 for A, the same for B, 5, 8 fewer than 7 numbers for each point claimed, 12 a count outside 4 to 4001, a start index not
 // below it, a code above 2 or a closing that is not so; then point by point, with the point's index, 14 a parameter outside its window,
-// 13 not A's own point, 15 a gap not at most the confusion, 16 a chord not at most 0.2. It writes nothing.
+// 13 not A's own point, 15 a gap not at most the confusion, 16 a chord not at most 0.2. It writes nothing. At each point of a trace that
+// passes the exact squared gap is at most confusion squared times (1 + 2^-50).
 pub fn check(
     a: Patch,
     b: Patch,
@@ -69,16 +54,17 @@ pub fn check(
     start: usize,
     closing: usize,
 ) -> Checked
-    ensures { λ r. ⌜ (r ≡ checkOf a b tol (now (trace .entry)) count start closing) × ((r ≡ Passed → Passes a b tol (now (trace .entry)) count start closing) × (Passes a b tol (now (trace .entry)) count start closing → r ≡ Passed)) ⌝ }
+    ensures { λ r. ⌜ CheckPromise a b tol (now (trace .entry)) count start closing r ⌝ }
 {
     certificate::check::check(a, b, tol, trace, count, start, closing)
 }
 
-// Whether the trace of `count` points at the front of the list crosses the box, grown by 8000 times the confusion. Refused, in this order:
+// Whether the trace of `count` points at the front of the list crosses the box, grown by 8000 times the confusion: yes exactly when some
+// segment counts. Refused, in this order:
 // 5, 8, 12 (the count alone), 18 a coordinate that is not finite or above 2^20 in magnitude, 17 the same of the box, or a low side above
 // its high side. It writes nothing.
 pub fn crossing(tol: Tolerance, points: &[f64], count: usize, b: Aabb) -> Crossed
-    ensures { λ r. ⌜ r ≡ crossingOf tol (now (points .entry)) count b ⌝ }
+    ensures { λ r. ⌜ CrossingPromise tol (now (points .entry)) count b r ⌝ }
 {
     boxes::crossing::crossing(tol, points, count, b)
 }

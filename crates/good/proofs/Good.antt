@@ -1,28 +1,28 @@
 -- Whatever the surfaces and the guess, under a fit tolerance every meeting and every landing is good. Assumes nothing.
 use mathlib.Core.Path.{_≡_, refl, ap, _∙_, subst}
 use mathlib.Core.Bool.{Bool, true, false, _&&_}
-use Prim.Native.Nat.{ℕ, _^_, _≤_, _<_}
-use native.Mathlib.Nat.{lt-of-lt-of-le}
-use lib.Dec.{T, eqb}
+use Prim.Native.Nat.{ℕ}
+use native.Mathlib.Nat.{lt-of-le-of-lt, lt-of-lt-of-le}
+use lib.Dec.{T, eqb, lit<}
 use lib.Pow.{pow-pos}
-use lib.Ieee.{Float, binary64, fits}
+use lib.Ieee.{Float, ofBits, le}
 use lib.Ieee.Fits.{and-l, and-r}
+use lib.Ieee.Positive.{positive, between}
 use lib.Ieee.Scale.{finite}
 use Rattle.loops.specs.Loop.{pick, Flow, on, out}
 use Rattle.loops.proofs.Loop.{Kept, searched-keeps}
 use Rattle.number.specs.Operators.{_⊗_, _<?_, _≤?_}
 use Rattle.number.specs.Helpers.{one, half, tenth, absOf}
-use Rattle.number.specs.Units.{mag, neg?}
-use Rattle.number.proofs.Values.{whole}
 use Rattle.number.proofs.Order.{le-self, le-numbers, le-through}
-use Rattle.number.proofs.Scaling.{tenth-le}
+use Rattle.number.proofs.Scaling.{unsigned, tenth-le}
 use Rattle.geometry.specs.declared.point.Point3D.{Point3D}
 use Rattle.vector.specs.declared.Vector3D.{Vector3D}
 use Rattle.tolerance.specs.declared.Tolerance.{Tolerance}
 use Rattle.tolerance.specs.Tolerance.{leastConfusion, toleranceFit}
 use Rattle.vector.specs.Vector.{magnitudeOf}
 use Rattle.geometry.specs.Point.{fromOf}
-use Rattle.gap.proofs.Gap.{magnitude-is-gap, fit-tolerance, finite-between, large, gap-finite, PointFinite}
+use Rattle.gap.specs.Gap.{PointFinite}
+use Rattle.gap.proofs.Gap.{magnitude-is-gap, fit-tolerance, finite-between, least-under, under-one, gap-finite}
 use Rattle.patch.specs.declared.patch.Patch.{Patch}
 use Rattle.patch.specs.declared.patch.Parameters.{Parameters}
 use Rattle.patch.specs.Patch.{insideOf, boundedOf, withinBounds}
@@ -159,7 +159,7 @@ bounded-parameter a b x k = go (eqb k 0) (eqb k 1) (eqb k 2)
 
 -- ---- under a fit tolerance
 
-module _ (a b : Patch) (tol : Tolerance) (fc : T (fits binary64 (tol .confusion))) (fit : T (toleranceFit tol)) where
+module _ (a b : Patch) (tol : Tolerance) (fit : T (toleranceFit tol)) where
   abbrev c : Float
   c = tol .confusion
 
@@ -169,11 +169,13 @@ module _ (a b : Patch) (tol : Tolerance) (fc : T (fits binary64 (tol .confusion)
   c-finite : T (finite c)
   c-finite = finite-between c (low-high .0) (low-high .1)
 
-  c-large : (neg? c ≡ false) × (2 ^ 1034 ≤ mag c)
-  c-large = large c (neg? c) (whole c fc c-finite) (low-high .0)
+  c-positive : T (positive c)
+  c-positive = between leastConfusion c one (unfold ofBits in tt) (unfold ofBits in tt) (low-high .0) (low-high .1)
 
   tight : T (tenth ⊗ c ≤? c)
-  tight = tenth-le c fc c-finite (c-large .0) (lt-of-lt-of-le (pow-pos 1034) (c-large .1))
+  tight =
+      tenth-le c c-positive (lt-of-lt-of-le (pow-pos 1034) (least-under c c-finite (low-high .0)))
+      (lt-of-le-of-lt (under-one c c-finite (unsigned c c-positive) (low-high .1)) (lit< tt))
 
   self : T (c ≤? c)
   self = le-self c (le-numbers c one (low-high .1) .0)

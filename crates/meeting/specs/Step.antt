@@ -62,17 +62,20 @@ columnsOf a b x = record {
 unfoldable pub dot4Of : Float → Float → Float → Float → Float → Float → Float → Float → Float
 dot4Of p0 p1 p2 p3 q0 q1 q2 q3 = sumStart ⊕ p0 ⊗ q0 ⊕ p1 ⊗ q1 ⊕ p2 ⊗ q2 ⊕ p3 ⊗ q3
 
--- J J^T of the minimum-norm step; of the Rust's nine sums the three below the diagonal have the bits of those above it, since a product does
--- not depend on the order of its factors
+-- the Rust's `dot(p, q)`: a row is one coordinate of the four columns
+abbrev pub rowDot : Columns → (Vector3D → Float) → (Vector3D → Float) → Float
+rowDot c p q = dot4Of (p (c .c0)) (p (c .c1)) (p (c .c2)) (p (c .c3)) (q (c .c0)) (q (c .c1)) (q (c .c2)) (q (c .c3))
+
+-- J J^T of the minimum-norm step: `rows.map(|p| rows.map(|q| dot(p, q)))`
 unfoldable pub normalMatrix : Columns → List (List Float)
 normalMatrix c =
-    let xx = dot4Of (c .c0 .x) (c .c1 .x) (c .c2 .x) (c .c3 .x) (c .c0 .x) (c .c1 .x) (c .c2 .x) (c .c3 .x) in
-    let xy = dot4Of (c .c0 .x) (c .c1 .x) (c .c2 .x) (c .c3 .x) (c .c0 .y) (c .c1 .y) (c .c2 .y) (c .c3 .y) in
-    let xz = dot4Of (c .c0 .x) (c .c1 .x) (c .c2 .x) (c .c3 .x) (c .c0 .z) (c .c1 .z) (c .c2 .z) (c .c3 .z) in
-    let yy = dot4Of (c .c0 .y) (c .c1 .y) (c .c2 .y) (c .c3 .y) (c .c0 .y) (c .c1 .y) (c .c2 .y) (c .c3 .y) in
-    let yz = dot4Of (c .c0 .y) (c .c1 .y) (c .c2 .y) (c .c3 .y) (c .c0 .z) (c .c1 .z) (c .c2 .z) (c .c3 .z) in
-    let zz = dot4Of (c .c0 .z) (c .c1 .z) (c .c2 .z) (c .c3 .z) (c .c0 .z) (c .c1 .z) (c .c2 .z) (c .c3 .z) in
-    (xx ∷ xy ∷ xz ∷ []) ∷ (xy ∷ yy ∷ yz ∷ []) ∷ (xz ∷ yz ∷ zz ∷ []) ∷ []
+    let x : Vector3D → Float = λ v. v .x in
+    let y : Vector3D → Float = λ v. v .y in
+    let z : Vector3D → Float = λ v. v .z in
+    (rowDot c x x ∷ rowDot c x y ∷ rowDot c x z ∷ [])
+    ∷ (rowDot c y x ∷ rowDot c y y ∷ rowDot c y z ∷ [])
+    ∷ (rowDot c z x ∷ rowDot c z y ∷ rowDot c z z ∷ [])
+    ∷ []
 
 -- the right side -f
 abbrev pub minus : Vector3D → List Float

@@ -2,17 +2,17 @@
 -- On finite numbers the order is that of the whole numbers of units. Assumes nothing.
 use mathlib.Core.Path.{_≡_, refl, sym, ap, _∙_, subst}
 use mathlib.Core.Logic.{_⊎_, inl, inr}
-use Prim.Native.Nat.{ℕ, zero, suc, _+_, _-_, _*_, _≤_, _<_, zero-le}
-use native.Mathlib.Nat.{le-refl, le-trans, le-antisymm, mul-comm, mul-right-comm, mul-assoc, mul-le-mul-right, le-of-mul-le-mul-right, mul-pos, zero-mul, suc-mul, add-comm}
+use Prim.Native.Nat.{ℕ, zero, suc, _+_, _-_, _*_, _/_, _≤_, _<_, zero-le}
+use native.Mathlib.Nat.{le-refl, le-trans, le-antisymm, mul-comm, mul-right-comm, mul-assoc, mul-le-mul-right, le-of-mul-le-mul-right, mul-pos, zero-mul, zero-div, suc-mul, add-comm, div-mul-le-self, le-div-iff-mul-le, le-of-eq}
 use native.Mathlib.Omega.{arith}
-use mathlib.Core.Bool.{Bool, true, false, not, _&&_, _||_}
+use mathlib.Core.Bool.{Bool, true, false, not, _&&_, _||_, and-true}
 use lib.IntN.{ℤ}
 use lib.Signed.{leZ, _≤ℤ_, leZ-yes}
-use lib.Dec.{T, leb→le, le→leb, ltb, eqb, ltb→lt, nltb→le, eqb→eq, eqb-refl, lit<}
+use lib.Dec.{T, leb→le, le→leb, ltb, eqb, ltb→lt, nltb→le, eqb→eq, lit<}
 use lib.Arith.{le→nltb}
 use lib.Pow.{pow-pos}
 use lib.Ieee.{Float, nan, inf, fin, binary64, up, down, isNan, fits, round, neg, lt, eq, le, below, level}
-use lib.Ieee.Fits.{down-pos}
+use lib.Ieee.Fits.{down-pos, eq→eqb}
 use lib.Ieee.Scale.{finite, round-same}
 use lib.Ieee.Order.{round-mono}
 use Rattle.number.specs.Operators.{_<?_, _≤?_}
@@ -86,21 +86,14 @@ three a b false true false p q r s u v = refl
 three a b false false true p q r s u v = refl
 three a b false false false p q r s u v = absurd (v (le-antisymm (s tt) (q tt)))
 
-same : {a b : ℕ} → a ≡ b → T (eqb a b)
-same {a} e = subst (λ (x : ℕ). T (eqb a x)) e (eqb-refl a)
-
-and-true : (b : Bool) → (b && true) ≡ b
-and-true true = refl
-and-true false = refl
-
 level-self : (a b : ℕ) → (ltb a b || (eqb a b && true)) ≡ not (ltb b a)
 level-self a b =
     ap (λ (e : Bool). ltb a b || e) (and-true (eqb a b))
-    ∙ three a b (ltb a b) (ltb b a) (eqb a b) (ltb→lt a b) (nltb→le a b) (ltb→lt b a) (nltb→le b a) (eqb→eq a b) same
+    ∙ three a b (ltb a b) (ltb b a) (eqb a b) (ltb→lt a b) (nltb→le a b) (ltb→lt b a) (nltb→le b a) (eqb→eq a b) eq→eqb
 
 -- of unlike signs the two are level where both are 0
 level-zero : (a b : ℕ) → (eqb a b && eqb a 0) ≡ not (ltb 0 (b + a))
-level-zero a b = go (eqb a b) (eqb a 0) (ltb 0 (b + a)) (eqb→eq a b) same (eqb→eq a 0) same (ltb→lt 0 (b + a)) (nltb→le 0 (b + a))
+level-zero a b = go (eqb a b) (eqb a 0) (ltb 0 (b + a)) (eqb→eq a b) eq→eqb (eqb→eq a 0) eq→eqb (ltb→lt 0 (b + a)) (nltb→le 0 (b + a))
   where
     go : (x y z : Bool) → (T x → a ≡ b) → (a ≡ b → T x) → (T y → a ≡ 0) → (a ≡ 0 → T y) → (T z → 0 < b + a) → (T (not z) → b + a ≤ 0) → (x && y) ≡ not z
     go true true true p p' q q' r r' = absurd (let x = p tt in let y = q tt in let z = r tt in omega arith)
@@ -124,7 +117,7 @@ not-greater true false a b = or-level a b
 not-greater true true a b = ap (λ (e : Bool). ltb b a || (e && true)) (eqb-swap a b) ∙ level-self b a
   where
     eqb-swap : (a b : ℕ) → eqb a b ≡ eqb b a
-    eqb-swap a b = both-ways (eqb a b) (eqb b a) (λ t. same (sym (eqb→eq a b t))) (λ t. same (sym (eqb→eq b a t)))
+    eqb-swap a b = both-ways (eqb a b) (eqb b a) (λ t. eq→eqb (sym (eqb→eq a b t))) (λ t. eq→eqb (sym (eqb→eq b a t)))
 
 below→Le : (s t : Bool) (a b : ℕ) → T (not (below t b s a)) → Le s a t b
 below→Le false false a b h = nltb→le b a h
@@ -349,6 +342,43 @@ units→le (fin u m e) (fin v n d) s t a b p q h =
     Le→le u v m n e d
     (subst (λ (k : Bool). Le k (m * up e * down d) v (n * up d * down e)) (sym (p .0)) (subst (λ (k : Bool). Le s (m * up e * down d) k (n * up d * down e)) (sym (q .0))
     (Le-cross s t (m * up e) (n * up d) (down e) (down d) a b unit (down-pos e) (down-pos d) (pow-pos 1074) (p .1) (q .1) h)))
+
+-- The whole units in a number, whatever its format, keep the order of numbers; and as many units as there are in a number are at most it.
+pub le→mag : (x y : Float) → T (finite x) → T (finite y) → neg? x ≡ false → T (x ≤? y) → mag x ≤ mag y
+le→mag nan y f g s h = absurd f
+le→mag (inf u) y f g s h = absurd f
+le→mag (fin u m e) nan f g s h = absurd g
+le→mag (fin u m e) (inf v) f g s h = absurd g
+le→mag (fin u m e) (fin v n d) f g s h = go v (subst (λ (k : Bool). Le k (m * up e * down d) v (n * up d * down e)) s (le→Le u v m n e d h))
+  where
+    go : (t : Bool) → Le false (m * up e * down d) t (n * up d * down e) → m * up e * unit / down e ≤ n * up d * unit / down d
+    go false k =
+        le-div-iff-mul-le (down-pos d) .1
+        (le-of-mul-le-mul-right {k = down e}
+        (le-trans (le-of-eq (mul-right-comm (m * up e * unit / down e) (down d) (down e)))
+        (le-trans (mul-le-mul-right (down d) (div-mul-le-self (m * up e * unit) (down e)))
+        (le-trans (le-of-eq (mul-right-comm (m * up e) unit (down d)))
+        (le-trans (mul-le-mul-right unit k) (le-of-eq (mul-right-comm (n * up d) (down e) unit))))))
+        (down-pos e))
+    go true k =
+        let z = none (m * up e) (down d) (down-pos d) (omega (arith, k)) in
+        subst (λ (i : ℕ). i * unit / down e ≤ n * up d * unit / down d) (sym z) (le-trans (le-of-eq (ap (λ (i : ℕ). i / down e) (zero-mul unit) ∙ zero-div (down e))) zero-le)
+
+pub mag→le : (x y : Float) (a : ℕ) → Is x false a → T (finite y) → neg? y ≡ false → a ≤ mag y → T (x ≤? y)
+mag→le nan y a p f s h = absurd p
+mag→le (inf u) y a p f s h = absurd p
+mag→le (fin u m e) nan a p f s h = absurd f
+mag→le (fin u m e) (inf v) a p f s h = absurd f
+mag→le (fin u m e) (fin v n d) a p f s h =
+    Le→le u v m n e d
+    (subst (λ (k : Bool). Le k (m * up e * down d) v (n * up d * down e)) (sym (p .0)) (subst (λ (k : Bool). Le false (m * up e * down d) k (n * up d * down e)) (sym s) below))
+  where
+    below : m * up e * down d ≤ n * up d * down e
+    below =
+        le-of-mul-le-mul-right {k = unit}
+        (le-trans (le-of-eq (mul-right-comm (m * up e) (down d) unit ∙ ap (λ (i : ℕ). i * down d) (p .1) ∙ mul-right-comm a (down e) (down d)))
+        (le-trans (mul-le-mul-right (down e) (le-div-iff-mul-le (down-pos d) .0 h)) (le-of-eq (mul-right-comm (n * up d) unit (down e)))))
+        (pow-pos 1074)
 
 -- and so, as integers
 Le→ℤ : (s t : Bool) (a b : ℕ) → Le s a t b → T (leZ (signed s a) (signed t b))

@@ -1,26 +1,25 @@
--- Products by one, by a tenth and by a half. Assumes nothing.
+-- Products by a tenth and by a half. Assumes nothing.
 use mathlib.Core.Path.{_≡_, refl, sym, ap, _∙_, subst}
 use Prim.Native.Nat.{ℕ, zero, suc, _+_, _-_, _*_, _^_, _≤_, _<_}
-use native.Mathlib.Nat.{le-refl, le-of-lt, lt-of-le-of-lt, lt-of-lt-of-le, not-le-of-lt, mul-one, mul-assoc, mul-comm, mul-pos, le-of-mul-le-mul-right, pow-suc}
+use native.Mathlib.Nat.{le-of-lt, lt-of-le-of-lt, lt-of-lt-of-le, not-le-of-lt, mul-one, mul-assoc, mul-pos, mul-le-mul-left, mul-le-mul-right, le-of-mul-le-mul-right, div-lt-iff-lt-mul, pow-suc}
 use native.Mathlib.Omega.{arith}
-use mathlib.Core.Bool.{Bool, false}
-use lib.Dec.{T, lit<}
+use mathlib.Core.Bool.{Bool, true, false}
+use lib.Dec.{T, lit<, lit≤}
 use lib.Pow.{pow-pos}
-use lib.Ieee.{Float, binary64, size, round, le, ofBits, fits}
+use lib.Ieee.{Float, nan, inf, fin, binary64, size, round, ofBits, fits}
+use lib.Ieee.Digits.{size-lt, size-reaches}
+use lib.Ieee.Fits.{down-pos}
+use lib.Ieee.Order.{round-mono}
 use lib.Ieee.Scale.{finite, grid, round-same, round-val}
-use lib.Ieee.Positive.{positive, positive-of-value, mul-mono}
+use lib.Ieee.Positive.{positive, num, den, den-pos, positive-finite, own-value, mul-at}
 use Rattle.number.specs.Operators.{_⊗_, _<?_, _≤?_}
-use Rattle.number.specs.Helpers.{one, half, tenth}
+use Rattle.number.specs.Helpers.{half, tenth}
 use Rattle.number.specs.Units.{unit, mag, neg?}
 use Rattle.number.proofs.Values.{Is, Held, is-number, whole, held, below-top, mul-is}
 use Rattle.number.proofs.Rounding.{error}
 use Rattle.number.proofs.Neighbours.{multiple}
 use Rattle.number.proofs.Sums.{round-held, unlike-false}
-use Rattle.number.proofs.Order.{le-self, le-through, le→units, units→le, not-le→lt}
-
-one-is : Is one false unit
-unfolding ofBits
-one-is = (refl, refl)
+use Rattle.number.proofs.Order.{le-through, le→units, mag→le, not-le→lt}
 
 half-is : Is half false (2 ^ 1073)
 unfolding ofBits
@@ -32,23 +31,63 @@ round-product s n k e h top =
     subst (λ (x : Float). Is x s k) (sym (round-same binary64 s n (unit * unit) k unit (mul-pos (pow-pos 1074) (pow-pos 1074)) (pow-pos 1074) (ap (λ (x : ℕ). x * unit) e ∙ mul-assoc k unit unit)))
     (round-held s k h top)
 
--- ---- a tenth of c is at most c, and so what is at most a tenth of c is at most c
+-- ---- a tenth of c is at most c, whatever c's format, and so what is at most a tenth of c is at most c
 
-module _ (c : Float) (f : T (fits binary64 c)) (h : T (finite c)) (s : neg? c ≡ false) (p : 0 < mag c) where
-  v : Is c false (mag c)
-  v = subst (λ (t : Bool). Is c t (mag c)) s (whole c f h)
+tenth-is : Is tenth false (mag tenth)
+unfolding ofBits
+tenth-is = (refl, refl)
 
-  times-one : Is (one ⊗ c) false (mag c)
-  times-one = subst (λ (x : Float). Is x false (mag c)) (sym (mul-is one c false false unit (mag c) one-is v)) (round-product false (unit * mag c) (mag c) (mul-comm unit (mag c)) (held c f h) (below-top c false (mag c) f v))
+twice-tenth : mag tenth * 2 ≤ unit
+unfolding ofBits
+twice-tenth = lit≤ tt
 
-  c-positive : T (positive c)
-  c-positive = positive-of-value c (mag c) unit v p
+pub unsigned : (c : Float) → T (positive c) → neg? c ≡ false
+unsigned nan t = absurd t
+unsigned (inf s) t = absurd t
+unsigned (fin true m e) t = absurd t
+unsigned (fin false m e) t = refl
+
+module _ (c : Float) (q : T (positive c)) (p : 0 < mag c) (top : mag c < 2 ^ 2098) where
+  -- the power of two at or below the whole units in c
+  places : ℕ
+  places = size (mag c) - 1
+
+  some-places : suc places ≡ size (mag c)
+  unfolding places
+  some-places = let h = size-lt (mag c) in go (size (mag c)) h
+    where
+      go : (z : ℕ) → mag c < 2 ^ z → suc (z - 1) ≡ z
+      go zero h = absurd (omega (arith, p, h))
+      go (suc z) h = omega arith
+
+  power-under : 2 ^ places ≤ mag c
+  power-under = size-reaches (mag c) places (let e = some-places in omega (arith, e))
+
+  -- c is below twice that power
+  under-twice : num c * unit ≤ 2 ^ places * 2 * den c
+  under-twice =
+      let l : mag c < 2 ^ suc places = subst (λ (z : ℕ). mag c < 2 ^ z) (sym some-places) (size-lt (mag c)) in
+      le-of-lt (subst (λ (z : ℕ). num c * unit < z * den c) (pow-suc 2 places) (below c q (2 ^ suc places) l))
+    where
+      below : (x : Float) → T (positive x) → (z : ℕ) → mag x < z → num x * unit < z * den x
+      below nan t z h = absurd t
+      below (inf s) t z h = absurd t
+      below (fin s m e) t z h = div-lt-iff-lt-mul (down-pos e) .0 h
+
+  power-is : Is (round binary64 false (2 ^ places) unit) false (2 ^ places)
+  power-is = round-held false (2 ^ places) (1, places, lit< tt, omega arith) (lt-of-le-of-lt power-under top)
+
+  crossed : (t u n d z : ℕ) → t * 2 ≤ u → n * u ≤ z * 2 * d → t * n * u ≤ z * (u * d)
+  crossed t u n d z a b = omega (arith, mul-le-mul-left t b, mul-le-mul-right (z * d) a)
 
   pub tenth-le : T (tenth ⊗ c ≤? c)
   tenth-le =
-      le-through (tenth ⊗ c) (one ⊗ c) c
-      (mul-mono binary64 tenth one c c (unfold ofBits in tt) (unfold ofBits in tt) c-positive c-positive (unfold ofBits le in tt) (le-self c (is-number c false (mag c) v)))
-      (units→le (one ⊗ c) c false false (mag c) (mag c) times-one v (le-refl (mag c)))
+      let power = round binary64 false (2 ^ places) unit in
+      le-through (tenth ⊗ c) power c
+      (subst (λ (x : Float). T (x ≤? power)) (sym (mul-at binary64 tenth c (mag tenth) unit (num c) (den c) (unfold ofBits in tt) q (pow-pos 1074) (den-pos c) tenth-is (own-value c q)))
+      (round-mono binary64 (mag tenth * num c) (unit * den c) (2 ^ places) unit (mul-pos (pow-pos 1074) (den-pos c)) (pow-pos 1074)
+      (crossed (mag tenth) unit (num c) (den c) (2 ^ places) twice-tenth under-twice)))
+      (mag→le power c (2 ^ places) power-is (positive-finite c q) (unsigned c q) power-under)
 
 -- ---- half of x
 

@@ -3,7 +3,7 @@ use mathlib.Core.Path.{_≡_, refl, sym, ap, _∙_}
 use Prim.Native.Nat.{ℕ, zero, suc, _+_, _-_, _*_, _/_, _%_, _^_, _≤_, _<_, compare}
 use native.Mathlib.Nat.{add-comm, mul-comm}
 use native.Mathlib.Omega.{arith}
-use mathlib.Core.Bool.{Bool, true, false, not, _&&_, Bool·beq, cond}
+use mathlib.Core.Bool.{Bool, true, false, not, _&&_, Bool·beq, Bool·not-not, cond}
 use lib.Dec.{T, ltb, eqb, ltb→lt, nltb→le}
 use lib.Ieee.{Float, nan, inf, fin, binary64, emax, low, unlike, up, down, size, nearest, odd, units, round, sum, neg, add, sub, mul}
 use lib.Ieee.Fits.{round-is}
@@ -126,15 +126,11 @@ turned false true a b c true g = opposite true (b - a) c
 turned false true a b c false true = opposite false (a - b) c
 turned false true a b c false false = refl
 
-not-not : (b : Bool) → not (not b) ≡ b
-not-not true = refl
-not-not false = refl
-
 sum-turned : (s t : Bool) (a b c : ℕ) → square (sum binary64 t b (not s) a c) ≡ square (sum binary64 s a (not t) b c)
 unfolding sum parts
 sum-turned s t a b c =
     ap square (sum-swap t (not s) b a c)
-    ∙ ap (λ (k : Bool). square (sum binary64 (not s) a k b c)) (sym (not-not t))
+    ∙ ap (λ (k : Bool). square (sum binary64 (not s) a k b c)) (sym (Bool·not-not t))
     ∙ turned s (not t) a b c (ltb a b) (ltb b a)
 
 pub square-swap : (x y : Float) → (y ⊖ x) ⊗ (y ⊖ x) ≡ (x ⊖ y) ⊗ (x ⊖ y)

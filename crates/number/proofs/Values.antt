@@ -6,13 +6,13 @@ use native.Mathlib.Omega.{arith}
 use mathlib.Core.Bool.{Bool, true, false, not, _&&_, Bool·beq, cond}
 use lib.Dec.{T, leb, ltb, eqb, ltb→lt, lt→ltb, nltb→le}
 use lib.Pow.{pow-pos}
-use lib.Ieee.{Float, nan, inf, fin, Format, binary64, prec, low, unlike, up, down, odd, units, round, neg, sum, add, sub, mul, ofFields, ofBits, toBits, fits, isNan}
-use lib.Ieee.Fits.{and-r, down-pos, round-is}
+use lib.Ieee.{Float, nan, inf, fin, binary64, unlike, up, down, odd, round, neg, sum, add, sub, mul, ofFields, ofBits, toBits, fits, isNan}
+use lib.Ieee.Fits.{and-r, down-pos}
 use lib.Ieee.Bits.{ofBits-toBits}
-use lib.Ieee.Exact.{HasValue, odd-sign, units-val}
-use lib.Ieee.Scale.{round-same, grid, overflow, finite}
-use lib.Ieee.Order.{kept, drop}
+use lib.Ieee.Exact.{HasValue, odd-sign}
+use lib.Ieee.Scale.{round-same, round-val, round-under, grid, finite}
 use Rattle.number.specs.Units.{unit, mag, neg?}
+use Rattle.number.proofs.Symmetry.{round-neg}
 
 -- x is ±a units
 abbrev pub Is : Float → Bool → ℕ → Type 0
@@ -69,20 +69,24 @@ pub held : (x : Float) → T (fits binary64 x) → T (finite x) → Held (mag x)
 held x f h = own x f h .1
 
 -- ---- `round` of a / unit, or of any fraction
-pub units-under : (f : Format) (s : Bool) (q k : ℕ) → T (finite (units f s q k)) → q * 2 ^ k < overflow f
-unfolding units
-units-under f s q k = go (ltb (q * 2 ^ k) (overflow f)) (ltb→lt (q * 2 ^ k) (overflow f))
-  where
-    go : (b : Bool) → (T b → q * 2 ^ k < overflow f) → T (finite (cond b (odd (suc (prec f)) s q k (low f)) (inf s))) → q * 2 ^ k < overflow f
-    go true h t = h tt
-    go false h t = absurd t
+value-neg : (x : Float) (s : Bool) (a c : ℕ) → HasValue x s a c → HasValue (neg x) (not s) a c
+unfolding neg
+value-neg nan s a c h = absurd h
+value-neg (inf t) s a c h = absurd h
+value-neg (fin t m e) s a c h = (ap not (h .0), h .1)
+
+finite-neg : (x : Float) → T (finite (neg x)) → T (finite x)
+unfolding neg
+finite-neg nan h = h
+finite-neg (inf t) h = h
+finite-neg (fin t m e) h = tt
 
 pub round-is-grid : (s : Bool) (a c : ℕ) → T (finite (round binary64 s a c)) → Is (round binary64 s a c) s (grid binary64 a c)
-round-is-grid s a c h =
-    let k = kept 53 (a * unit) c in
-    let j = drop 53 (a * unit) c in
-    let e = round-is binary64 s a c in
-    subst (λ (y : Float). Is y s (grid binary64 a c)) (sym e) (units-val binary64 s k j (units-under binary64 s k j (subst (λ (y : Float). T (finite y)) e h)))
+round-is-grid false a c h = round-val binary64 a c (round-under binary64 a c h)
+round-is-grid true a c h =
+    let x = round binary64 false a c in
+    let k = finite-neg x (rw (round-neg false a c) at h) in
+    rw (round-neg false a c) (value-neg x false (grid binary64 a c) unit (round-val binary64 a c (round-under binary64 a c k)))
 
 -- ---- sums
 cross : (x u d e a l : ℕ) → x * u * l ≡ a * e → x * u * d * l ≡ a * (e * d)

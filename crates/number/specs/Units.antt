@@ -8,7 +8,7 @@ use lib.Ieee.{Float, nan, inf, fin, up, down}
 abbrev pub unit : ℕ
 unit = 2 ^ 1074
 
--- the magnitude of m * 2 ^ e in units of 2 ^ -1074: m * (up e / down e) * unit, a whole number for every finite binary64
+-- the magnitude of m * 2 ^ e in units of 2 ^ -1074: m * (up e / down e) * unit, exact for every finite binary64 (and the whole units below any other)
 abbrev pub mag : Float → ℕ
 mag nan = 0
 mag (inf s) = 0

@@ -5,7 +5,7 @@ use mathlib.Core.List.{List, [], _∷_, _++_}
 use Prim.Native.Nat.{ℕ, _+_, _-_, _≤_, _<_}
 use native.Mathlib.Omega.{arith}
 use lib.Dec.{T}
-use lib.Ieee.{Float, binary64, fits}
+use lib.Ieee.{Float}
 use lib.ListN.{length}
 use Rattle.loops.specs.Loop.{pick}
 use Rattle.loops.proofs.Loop.{Kept, searched-keeps-at}
@@ -44,7 +44,7 @@ pub record HalfFine (a b : Patch) (confusion : Float) (x : Parameters) (n : ℕ)
   pub good : All (Good a b confusion) points
   pub ends : Ends a x points closed
 
-module _ (a b : Patch) (tol : Tolerance) (fc : T (fits binary64 (tol .confusion))) (dir : Float) (x : Parameters) (gx : Good a b (tol .confusion) x) (n : ℕ) where
+module _ (a b : Patch) (tol : Tolerance) (dir : Float) (x : Parameters) (gx : Good a b (tol .confusion) x) (n : ℕ) where
   -- before turn i: the walker stands on the last point
   record Sofar (i : ℕ) (s : Halfway) : Type 0 where
     few : length (s .points) ≤ i
@@ -80,14 +80,14 @@ module _ (a b : Patch) (tol : Tolerance) (fc : T (fits binary64 (tol .confusion)
       → Kept (Sofar (i + 1)) Done (afterStep x (s .points) r)
   after i s h v (Onward w k) f = record {
     few = let e = v .few in omega (arith, e);
-    good = (f .good fc, v .good);
+    good = (f .good, v .good);
     linked = joins (s .points) (s .w .p) (w .x) (w .p) (v .stands) f (v .linked);
     stands = f .own;
   }
   after i s h v (Closed removed) f = closes (s .points) removed (let e = v .few in omega (arith, e, h)) f (v .good) (v .linked)
   after i s h v (Edge y q) f = record {
     few = let e = v .few in omega (arith, e, h);
-    good = (f .good fc, v .good);
+    good = (f .good, v .good);
     ends = left-open refl (joins (s .points) (s .w .p) y q (v .stands) f (v .linked));
   }
   after i s h v Ended f = record {

@@ -3,5 +3,6 @@ pub mod Halves
 pub mod Lines
 pub mod Rows
 pub mod Passing
-pub mod Evaluated
 pub mod Exact
+pub mod Promised
+pub mod Evaluated

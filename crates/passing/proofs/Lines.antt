@@ -6,7 +6,7 @@ use Prim.Native.Nat.{ℕ, zero, suc, _+_, _-_, _*_, _≤_, _<_}
 use native.Mathlib.Omega.{arith}
 use borrow.Author.Tests.{eqb-false}
 use lib.Dec.{T}
-use lib.Ieee.{Float, binary64, fits}
+use lib.Ieee.{Float}
 use lib.ListN.{length, getD, length-append, length-reverse, List·getD-append}
 use lib.Seq.{getD-append-seam}
 use Rattle.loops.specs.Loop.{pick}
@@ -125,11 +125,11 @@ module _ (a b : Patch) (confusion : Float) (x : Parameters) (gx : Good a b confu
           (subst (λ (s : List Parameters). LineFine a b confusion x n (x ∷ reverse s) 0 1) (sym d)
           (closed-made kept (subst (λ (s : List Parameters). length s ≤ n) d (f .few)) (subst (All (Good a b confusion)) d (f .good)) p))
 
-pub line-fine : (a b : Patch) (tol : Tolerance) → T (fits binary64 (tol .confusion)) → (x : Parameters) → Good a b (tol .confusion) x → (t : Vector3D) (n : ℕ)
+pub line-fine : (a b : Patch) (tol : Tolerance) (x : Parameters) → Good a b (tol .confusion) x → (t : Vector3D) (n : ℕ)
     → LineFine a b (tol .confusion) x n (lineOf a b tol x t n .points) (lineOf a b tol x t n .start) (lineOf a b tol x t n .closing)
 unfolding lineOf
-line-fine a b tol fc x gx t n =
+line-fine a b tol x gx t n =
     line-made a b (tol .confusion) x gx n
     (halfOf a b tol forward x t n .points) (halfOf a b tol forward x t n .closed)
     (halfOf a b tol backward x t n .points) (halfOf a b tol backward x t n .closed)
-    (half-fine a b tol fc forward x gx n t) (half-fine a b tol fc backward x gx n t)
+    (half-fine a b tol forward x gx n t) (half-fine a b tol backward x gx n t)

@@ -6,7 +6,7 @@ use Prim.Native.Nat.{ℕ, _+_, _-_, _*_, _≤_}
 use native.Mathlib.Omega.{arith}
 use borrow.Author.Tests.{leb-true}
 use lib.Dec.{T, leb}
-use lib.Ieee.{Float, binary64, fits}
+use lib.Ieee.{Float}
 use lib.ListN.{length, drop, replicate}
 use Rattle.loops.specs.Loop.{pick}
 use Rattle.groups.specs.Groups.{width}
@@ -29,10 +29,7 @@ use Rattle.marching.specs.declared.tangent.Direction.the-variants as direction
 use Rattle.marching.specs.Tangent.{tangentOf}
 use Rattle.good.specs.Good.{Good}
 use Rattle.good.proofs.Good.{meet-good}
-use Rattle.certificate.specs.declared.check.Checked.the-variants.{Passed}
 use Rattle.certificate.specs.Passes.{Passes}
-use Rattle.certificate.specs.Check.{checkOf}
-use Rattle.certificate.proofs.Passed.{passes-checked}
 use Rattle.walk.specs.Lent.{rowsOf}
 use Rattle.walk.specs.Line.{lineOf}
 use Rattle.walk.specs.Line as line
@@ -59,7 +56,7 @@ lined (Refused q) e = let h = number-positive q in absurd (omega (arith, h, e))
 
 -- ---- a fit call
 
-module _ (a b : Patch) (tol : Tolerance) (fc : T (fits binary64 (tol .confusion))) (fa : fitnessOf a ≡ Fit) (fb : fitnessOf b ≡ Fit) (fit : T (toleranceFit tol))
+module _ (a b : Patch) (tol : Tolerance) (fa : fitnessOf a ≡ Fit) (fb : fitnessOf b ≡ Fit) (fit : T (toleranceFit tol))
     (n : ℕ) (cap : n ≤ 2000) (rest : List Float) (count start closing : ℕ) where
   -- what holds of an outcome, `rest` being what lies past the room
   abbrev Passing : Outcome → Type 0
@@ -72,7 +69,7 @@ module _ (a b : Patch) (tol : Tolerance) (fc : T (fits binary64 (tol .confusion)
       (subst (λ (k : ℕ). Passes a b tol ((rowsOf a points ++ zeros) ++ rest) (length points) k closing) (ap startOf e)
       (subst (λ (k : ℕ). Passes a b tol ((rowsOf a points ++ zeros) ++ rest) (length points) s k) (ap closingOf e)
       (subst (λ (k : List Float). Passes a b tol k (length points) s c) (sym (append-assoc (rowsOf a points) zeros rest))
-      (line-passes a b tol fc fit x n points s c v (zeros ++ rest) fa fb h cap))))
+      (line-passes a b tol fit x n points s c v (zeros ++ rest) fa fb h cap))))
 
   settled-passing : (x : Parameters) (m : line.Line) → LineFine a b (tol .confusion) x n (m .points) (m .start) (m .closing) → Passing (settled a n m)
   unfolding settled
@@ -85,11 +82,11 @@ module _ (a b : Patch) (tol : Tolerance) (fc : T (fits binary64 (tol .confusion)
       go false e q = absurd (unlined q)
 
   direction-passing : (x : Parameters) → Good a b (tol .confusion) x → (d : Direction) → Passing (afterDirection a b tol n x d)
-  direction-passing x g (direction.Along t) = settled-passing x (lineOf a b tol x t n) (line-fine a b tol fc x g t n)
+  direction-passing x g (direction.Along t) = settled-passing x (lineOf a b tol x t n) (line-fine a b tol x g t n)
   direction-passing x g direction.Missing = λ q. absurd (unlined q)
 
   seed-passing : (guess : Parameters) (m : Met) → meetOf a b guess tol ≡ m → Passing (afterSeed a b tol n m)
-  seed-passing guess (met.At x) e = direction-passing x (meet-good a b tol fc fit guess x e) (tangentOf a b x tol)
+  seed-passing guess (met.At x) e = direction-passing x (meet-good a b tol fit guess x e) (tangentOf a b x tol)
   seed-passing guess met.Nothing e = λ q. absurd (unlined q)
 
   walked-passing : (guess : Parameters) → Passing (walkedOf a b tol guess n)
@@ -99,26 +96,22 @@ module _ (a b : Patch) (tol : Tolerance) (fc : T (fits binary64 (tol .confusion)
 -- ---- the call
 
 -- STATEMENT 4: whatever surfaces, tolerance, guess, step cap and buffer `trace` is given, if it answers a line then the buffer after the call passes
--- with the count, the start and the closing it answered. The confusion is binary64, as every f64 that is handed over is.
-pub trace-passes : (a b : Patch) (tol : Tolerance) (guess : Parameters) (n : ℕ) (l : List Float) → T (fits binary64 (tol .confusion)) → (count start closing : ℕ)
+-- with the count, the start and the closing it answered.
+pub trace-passes : (a b : Patch) (tol : Tolerance) (guess : Parameters) (n : ℕ) (l : List Float) (count start closing : ℕ)
     → traceOf a b tol guess n l .answer ≡ Line count start closing → Passes a b tol (traceOf a b tol guess n l .buffer) count start closing
 unfolding traceOf
-trace-passes a b tol guess n l fc count start closing e = go (callFitness a b tol guess n l) refl e
+trace-passes a b tol guess n l count start closing e = go (callFitness a b tol guess n l) refl e
   where
     go : (f : Fitness) → callFitness a b tol guess n l ≡ f → afterCall a b tol guess n l f .answer ≡ Line count start closing → Passes a b tol (afterCall a b tol guess n l f .buffer) count start closing
     go (Unfit r) k q = absurd (unlined q)
     go Fit k q =
         let s = call-fit a b tol guess n l k in
-        walked-passing a b tol fc (s .0) (s .1) (s .2) n (s .3) (drop (room n) l) count start closing guess q
+        walked-passing a b tol (s .0) (s .1) (s .2) n (s .3) (drop (room n) l) count start closing guess q
 
 -- as a caller of `trace` has it, from the two equations of its contract: what is answered without a refusal passes
-module _ (a b : Patch) (tol : Tolerance) (guess : Parameters) (n : ℕ) (l : List Float) (fc : T (fits binary64 (tol .confusion))) {r : Traced} {after : List Float}
+module _ (a b : Patch) (tol : Tolerance) (guess : Parameters) (n : ℕ) (l : List Float) {r : Traced} {after : List Float}
     (answer : r ≡ traceOf a b tol guess n l .answer) (buffer : after ≡ traceOf a b tol guess n l .buffer) (answered : refusalOf r ≡ 0) where
   pub traced-passes : Passes a b tol after (countOf r) (startOf r) (closingOf r)
   traced-passes =
       subst (λ (k : List Float). Passes a b tol k (countOf r) (startOf r) (closingOf r)) (sym buffer)
-      (trace-passes a b tol guess n l fc (countOf r) (startOf r) (closingOf r) (sym answer ∙ lined r answered))
-
-  -- and so `check` says passed of it
-  pub traced-checked : checkOf a b tol after (countOf r) (startOf r) (closingOf r) ≡ Passed
-  traced-checked = passes-checked a b tol after (countOf r) (startOf r) (closingOf r) traced-passes
+      (trace-passes a b tol guess n l (countOf r) (startOf r) (closingOf r) (sym answer ∙ lined r answered))

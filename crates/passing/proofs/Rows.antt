@@ -5,7 +5,7 @@ use mathlib.Core.List.{List, [], _∷_, _++_}
 use Prim.Native.Nat.{ℕ, zero, suc, _+_, _-_, _*_, _≤_, _<_}
 use native.Mathlib.Omega.{arith}
 use lib.Dec.{T}
-use lib.Ieee.{Float, nan, binary64, fits}
+use lib.Ieee.{Float, nan}
 use lib.Ieee.Scale.{finite}
 use lib.ListN.{length, getD, length-append}
 use lib.Seq.{getD-append-add}
@@ -68,10 +68,10 @@ record RowPasses (a b : Patch) (confusion : Float) (r : Row) : Type 0 where
   own : pointIn r ≡ pointA a (parametersIn r)
   gap : T (distanceOf (pointA a (parametersIn r)) (pointB b (parametersIn r)) ≤? confusion)
 
-module _ (a b : Patch) (tol : Tolerance) (fc : T (fits binary64 (tol .confusion))) (fit : T (toleranceFit tol)) where
+module _ (a b : Patch) (tol : Tolerance) (fit : T (toleranceFit tol)) where
   good-row : (y : Parameters) → Good a b (tol .confusion) y → RowPasses a b (tol .confusion) (ownRow a y)
   good-row y g =
-      let f = good-finite a b tol fc fit y g .0 in
+      let f = good-finite a b tol fit y g .0 in
       record { inside = g .inside; finite-x = f .x-finite; finite-y = f .y-finite; finite-z = f .z-finite; own = refl; gap = g .gap }
 
   -- ---- a line in the buffer

@@ -1,4 +1,4 @@
--- No refusal has the number 0, which stands for none. Assumes nothing.
+-- No refusal has the number 0, which stands for none, and each number is a byte. Assumes nothing.
 use mathlib.Core.Path.{_≡_}
 use mathlib.Core.Bool.{false}
 use Prim.Native.Nat.{_≤_}
@@ -9,26 +9,32 @@ use Rattle.refusal.specs.declared.Refusal.{Refusal}
 use Rattle.refusal.specs.declared.Refusal.the-variants.{Number, Size, Window, TurnMark, Tolerance, Parameter, StepCap, Lent, NoMeeting, NoDirection, TooShort, Claim, NotOwnPoint, OutsideWindow, Gap, Chord, BoxNumber, Coordinate, JobFile}
 use Rattle.refusal.specs.Refusal.{numberOf}
 
+number-byte : (r : Refusal) → (1 ≤ numberOf r) × (numberOf r ≤ 255)
+number-byte Number = (omega arith, omega arith)
+number-byte Size = (omega arith, omega arith)
+number-byte Window = (omega arith, omega arith)
+number-byte TurnMark = (omega arith, omega arith)
+number-byte Tolerance = (omega arith, omega arith)
+number-byte Parameter = (omega arith, omega arith)
+number-byte StepCap = (omega arith, omega arith)
+number-byte Lent = (omega arith, omega arith)
+number-byte NoMeeting = (omega arith, omega arith)
+number-byte NoDirection = (omega arith, omega arith)
+number-byte TooShort = (omega arith, omega arith)
+number-byte Claim = (omega arith, omega arith)
+number-byte (NotOwnPoint i) = (omega arith, omega arith)
+number-byte (OutsideWindow i) = (omega arith, omega arith)
+number-byte (Gap i) = (omega arith, omega arith)
+number-byte (Chord i) = (omega arith, omega arith)
+number-byte BoxNumber = (omega arith, omega arith)
+number-byte Coordinate = (omega arith, omega arith)
+number-byte JobFile = (omega arith, omega arith)
+
 pub number-positive : (r : Refusal) → 1 ≤ numberOf r
-number-positive Number = omega arith
-number-positive Size = omega arith
-number-positive Window = omega arith
-number-positive TurnMark = omega arith
-number-positive Tolerance = omega arith
-number-positive Parameter = omega arith
-number-positive StepCap = omega arith
-number-positive Lent = omega arith
-number-positive NoMeeting = omega arith
-number-positive NoDirection = omega arith
-number-positive TooShort = omega arith
-number-positive Claim = omega arith
-number-positive (NotOwnPoint i) = omega arith
-number-positive (OutsideWindow i) = omega arith
-number-positive (Gap i) = omega arith
-number-positive (Chord i) = omega arith
-number-positive BoxNumber = omega arith
-number-positive Coordinate = omega arith
-number-positive JobFile = omega arith
+number-positive r = number-byte r .0
+
+pub number-small : (r : Refusal) → numberOf r ≤ 255
+number-small r = number-byte r .1
 
 pub number-not-0 : (r : Refusal) → eqb (numberOf r) 0 ≡ false
 number-not-0 r = ne-eqb (numberOf r) 0 (λ e. let h = number-positive r in omega (arith, h, e))

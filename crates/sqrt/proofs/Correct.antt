@@ -1,5 +1,4 @@
--- The square root is right, over whole numbers: nobody needs to believe the definition `sqrtOf`. A finite number x is mag x units of 2 ^ -1074, and `unit` of them
--- make 1, so that its exact root, in units, is the root of mag x * unit. Assumes nothing.
+-- The root of a finite number above 0 is the nearest number. Assumes nothing.
 use mathlib.Core.Path.{_≡_, sym, subst}
 use mathlib.Core.Logic.{_⊎_, inl, inr}
 use Prim.Native.Nat.{ℕ, zero, suc, _+_, _*_, _^_, _≤_, _<_}
@@ -10,11 +9,11 @@ use mathlib.Core.Bool.{false}
 use lib.Dec.{T}
 use lib.Pow.{pow-pos}
 use lib.Ieee.{Float, binary64, fits}
-use lib.Ieee.Positive.{above}
 use lib.Ieee.Scale.{finite}
-use Rattle.number.specs.Units.{unit, mag, neg?}
+use Rattle.number.specs.Units.{unit, mag}
 use Rattle.number.proofs.Values.{is-own, Held, held}
 use Rattle.number.proofs.Neighbours.{above-next, under-next}
+use Rattle.sqrt.specs.SquareRoot.{Farther, AboveZero, NearestRoot}
 use Rattle.sqrt.specs.Sqrt.{sqrtOf}
 use Rattle.sqrt.specs.Nearest.{Nearest}
 use Rattle.sqrt.proofs.Pattern.{units-fits, units-finite, under-top}
@@ -59,10 +58,6 @@ farther-power M g U c h l = lt-of-lt-of-le (square-lt (g * U + c) (g * U + g * U
     re : (g U : ℕ) → (g * U + g * U) * (g * U + g * U) ≡ 4 * (g * g * (U * U))
     re g U = omega arith
 
--- g and c are whole numbers of units, n is the exact root's square: c is farther from the exact root than g, whether it lies above g or below
-abbrev pub Farther : ℕ → ℕ → ℕ → Type 0
-Farther n g c = (g < c → 4 * n < (g + c) * (g + c)) × (c < g → (g + c) * (g + c) < 4 * n)
-
 farther : (x : Float) (s : Shape x) (c : ℕ) → Held c → Farther (s .M * (2 ^ s .j * 2 ^ s .j)) (s .g * 2 ^ s .j) c
 farther x s c h = (
   λ l. farther-above (s .M) (s .g) (2 ^ s .j) c (pow-pos (s .j)) (s .near) (above-next c (s .g) (s .j) h (s .lo) l),
@@ -76,18 +71,17 @@ farther x s c h = (
         subst (λ (y : ℕ). (y * 2 ^ s .j + c) * (y * 2 ^ s .j + c) < 4 * (s .M * (2 ^ s .j * 2 ^ s .j))) (add-one k)
         (farther-below (s .M) k (2 ^ s .j) c (pow-pos (s .j)) (subst (Nearest (s .M)) (sym (add-one k)) n) (under-next c k (s .j) h (le-of-suc-le-suc p) (subst (λ (y : ℕ). c < y * 2 ^ s .j) (sym (add-one k)) l)))
 
--- THE SQUARE ROOT IS CORRECTLY ROUNDED. For every finite binary64 number x above 0 the result is a finite binary64 number above 0, and every other binary64 number y of
--- at least 0 is farther from the exact root than the result is: never nearer, and never as near. With g and c for the two in units, the exact root lies below the middle
--- of g and a c above it, and above the middle of g and a c below it; both are said of the doubled squares, 4 * mag x * unit and (g + c) ^ 2.
-pub sqrt-correct : (x : Float) → T (fits binary64 x) → T (finite x) → neg? x ≡ false → 0 < mag x
-    → T (fits binary64 (sqrtOf x)) × T (finite (sqrtOf x)) × (neg? (sqrtOf x) ≡ false) × (0 < mag (sqrtOf x))
-    × ((y : Float) → T (fits binary64 y) → T (finite y) → Farther (mag x * unit) (mag (sqrtOf x)) (mag y))
-sqrt-correct x f h n A =
-    let s = shape x f h n A in
-    let o = is-own (sqrtOf x) false (s .g * 2 ^ s .j) (root-is x s) in (
-      subst (λ (y : Float). T (fits binary64 y)) (sym (s .root)) (units-fits (s .g) (s .j) (s .hi)),
-      subst (λ (y : Float). T (finite y)) (sym (s .root)) (units-finite (s .g) (s .j) (under-top (s .g) (s .j) (s .hi) (s .few))),
-      o .0,
-      subst (λ (k : ℕ). 0 < k) (sym (o .1)) (mul-pos (lt-of-lt-of-le (pow-pos 52) (s .lo)) (pow-pos (s .j))),
-      λ y fy hy. subst (λ (k : ℕ). Farther k (mag (sqrtOf x)) (mag y)) (sym (s .is)) (subst (λ (k : ℕ). Farther (s .M * (2 ^ s .j * 2 ^ s .j)) k (mag y)) (sym (o .1)) (farther x s (mag y) (held y fy hy))),
-    )
+-- of a finite number above 0
+pub sqrt-correct : (x : Float) → T (fits binary64 x) → AboveZero x → NearestRoot (mag x * unit) (sqrtOf x)
+sqrt-correct x f a =
+    let s = shape x f (a .0) (a .1) (a .2) in
+    let o = is-own (sqrtOf x) false (s .g * 2 ^ s .j) (root-is x s) in
+    record {
+      at-least = record {
+        held = subst (λ (y : Float). T (fits binary64 y)) (sym (s .root)) (units-fits (s .g) (s .j) (s .hi));
+        is-finite = subst (λ (y : Float). T (finite y)) (sym (s .root)) (units-finite (s .g) (s .j) (under-top (s .g) (s .j) (s .hi) (s .few)));
+        sign = o .0;
+      };
+      above = subst (λ (k : ℕ). 0 < k) (sym (o .1)) (mul-pos (lt-of-lt-of-le (pow-pos 52) (s .lo)) (pow-pos (s .j)));
+      farther = λ y h. rw (s .is, o .1) (farther x s (mag y) (held y (h .held) (h .is-finite)));
+    }

@@ -2,7 +2,7 @@
 use mathlib.Core.Path.{_≡_, refl, sym, ap, _∙_, subst}
 use mathlib.Core.Logic.{_⊎_, inl, inr}
 use Prim.Native.Nat.{ℕ, zero, suc, _+_, _-_, _*_, _/_, _^_, _≤_, _<_, zero-le, compare}
-use native.Mathlib.Nat.{le-trans, le-of-eq, le-of-suc-le-suc, lt-of-lt-of-le, lt-of-not-le, lt-irrefl, eq-zero-or-pos, zero-lt-suc, zero-mul, mul-pos, mul-right-comm, mul-le-mul-right, mul-le-mul-left, le-of-mul-le-mul-right}
+use native.Mathlib.Nat.{le-trans, le-of-eq, le-of-suc-le-suc, lt-of-lt-of-le, lt-of-not-le, lt-irrefl, eq-zero-or-pos, zero-lt-suc, zero-mul, zero-div, mul-pos, mul-right-comm, mul-le-mul-right, mul-le-mul-left, le-of-mul-le-mul-right}
 use native.Mathlib.Omega.{arith}
 use mathlib.Core.Bool.{Bool, true, false, cond}
 use lib.Dec.{T, ltb}
@@ -21,6 +21,9 @@ use Rattle.sqrt.proofs.Shape.{shape, own, root-mag}
 use Rattle.sqrt.proofs.Correct.{sqrt-correct}
 
 -- ---- zeros are their own roots
+pub zero-mag : (s : Bool) (e : lib.IntN.ℤ) → mag (fin s zero e) ≡ 0
+zero-mag s e = ap (λ (k : ℕ). k * unit / down e) (zero-mul (up e)) ∙ ap (λ (k : ℕ). k / down e) (zero-mul unit) ∙ zero-div (down e)
+
 pub zero-root : (x : Float) → T (fits binary64 x) → T (finite x) → mag x ≡ 0 → sqrtOf x ≡ x
 unfolding sqrtOf
 zero-root (fin s zero e) f h z = refl
@@ -33,14 +36,14 @@ module _ (x : Float) (f : T (fits binary64 x)) (h : T (finite x)) (n : neg? x �
     where
       go : (mag x ≡ 0) ⊎ (0 < mag x) → T (finite (sqrtOf x))
       go (inl z) = subst (λ (v : Float). T (finite v)) (sym (zero-root x f h z)) h
-      go (inr A) = sqrt-correct x f h n A .1
+      go (inr A) = sqrt-correct x f (h, n, A) .at-least .is-finite
 
   pub sqrt-sign : neg? (sqrtOf x) ≡ false
   sqrt-sign = go (eq-zero-or-pos (mag x))
     where
       go : (mag x ≡ 0) ⊎ (0 < mag x) → neg? (sqrtOf x) ≡ false
       go (inl z) = ap neg? (zero-root x f h z) ∙ n
-      go (inr A) = sqrt-correct x f h n A .2
+      go (inr A) = sqrt-correct x f (h, n, A) .at-least .sign
 
 -- ---- the root of a binary64 number is one
 pub sqrt-fits : (x : Float) → T (fits binary64 x) → T (fits binary64 (sqrtOf x))
@@ -53,7 +56,7 @@ sqrt-fits (fin false (suc m) e) f = go (fin false (suc m) e) f tt refl (eq-zero-
   where
     go : (x : Float) → T (fits binary64 x) → T (finite x) → neg? x ≡ false → (mag x ≡ 0) ⊎ (0 < mag x) → T (fits binary64 (sqrtOf x))
     go x f h n (inl z) = subst (λ (v : Float). T (fits binary64 v)) (sym (zero-root x f h z)) f
-    go x f h n (inr A) = sqrt-correct x f h n A .0
+    go x f h n (inr A) = sqrt-correct x f (h, n, A) .at-least .held
 
 -- ---- the error: one part in 2 ^ 53 of the root, either way. K is 2 ^ 53, and J is K - 1
 over : (M g U K : ℕ) → K ≤ 2 * g → Nearest M g → M * (U * U) * (K * K) ≤ g * U * (g * U) * ((K + 1) * (K + 1))
@@ -120,9 +123,9 @@ module _ (x y : Float) (fx : T (fits binary64 x)) (fy : T (fits binary64 y)) (hx
       go (inl z) = le-trans (le-of-eq (ap mag (zero-root x fx hx z) ∙ z)) zero-le
       go (inr A) = le-of-suc-le-suc (lt-of-not-le (λ (k : mag (sqrtOf y) < mag (sqrtOf x)).
           let B = lt-of-lt-of-le A l in
-          let p = sqrt-correct x fx hx nx A in
-          let q = sqrt-correct y fy hy ny B in
-          wrong (mag x * unit) (mag y * unit) (mag (sqrtOf x)) (mag (sqrtOf y)) (mul-le-mul-right unit l) (p .4 (sqrtOf y) (q .0) (q .1) .1 k) (q .4 (sqrtOf x) (p .0) (p .1) .0 k)))
+          let p = sqrt-correct x fx (hx, nx, A) in
+          let q = sqrt-correct y fy (hy, ny, B) in
+          wrong (mag x * unit) (mag y * unit) (mag (sqrtOf x)) (mag (sqrtOf y)) (mul-le-mul-right unit l) (p .farther (sqrtOf y) (q .at-least) .1 k) (q .farther (sqrtOf x) (p .at-least) .0 k)))
         where
           wrong : (a b g h : ℕ) → a ≤ b → (g + h) * (g + h) < 4 * a → 4 * b < (h + g) * (h + g) → ⊥
           wrong a b g h l p q = omega arith
@@ -168,10 +171,7 @@ unfolding sqrtOf
 sqrt-le-finite nan c f h = unfold le in absurd h
 sqrt-le-finite (inf true) c f h = unfold le in absurd h
 sqrt-le-finite (inf false) c f h = absurd (not-inf (inf false) c (inr refl) f h)
-sqrt-le-finite (fin s zero e) c f h = record { finite-x = tt; finite-root = tt; not-below = inr (ap (λ (k : ℕ). k * unit / down e) (zero-mul (up e)) ∙ zero-div (down e)) }
-  where
-    zero-div : (d : ℕ) → 0 * unit / d ≡ 0
-    zero-div d = ap (λ (k : ℕ). k / d) (zero-mul unit) ∙ native.Mathlib.Nat.zero-div d
+sqrt-le-finite (fin s zero e) c f h = record { finite-x = tt; finite-root = tt; not-below = inr (zero-mag s e) }
 sqrt-le-finite (fin true (suc m) e) c f h = unfold le in absurd h
 sqrt-le-finite (fin false (suc m) e) c f h =
     let n = mag (fin false (suc m) e) * unit in

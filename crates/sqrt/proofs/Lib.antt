@@ -6,4 +6,6 @@ pub mod Fields
 pub mod Shape
 pub mod Correct
 pub mod Laws
+pub mod SquareRoot
+pub mod Settled
 pub mod AtMost

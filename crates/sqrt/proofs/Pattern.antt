@@ -37,7 +37,7 @@ units-finite q k h = go (ltb (q * 2 ^ k) (2 ^ 2098)) (lt→ltb (q * 2 ^ k) (2 ^ 
     go false t = absurd t
 
 -- the bits of a value that is a units
-toBits-of : (v : Float) (a : ℕ) → HasValue v false a (2 ^ 1074) → toBits binary64 v ≡ (size a - 53) * 2 ^ 52 + a / 2 ^ (size a - 53)
+pub toBits-of : (v : Float) (a : ℕ) → HasValue v false a (2 ^ 1074) → toBits binary64 v ≡ (size a - 53) * 2 ^ 52 + a / 2 ^ (size a - 53)
 unfolding toBits
 toBits-of (fin true m e) a h = absurd (true≢false (h .0))
 toBits-of (fin false m e) a h =

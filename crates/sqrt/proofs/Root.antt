@@ -1,6 +1,6 @@
 -- The floor of a square root, and the whole number nearest to one. Assumes nothing.
 use mathlib.Core.Path.{_≡_, refl, sym, ap, _∙_, subst}
-use Prim.Native.Nat.{ℕ, zero, suc, _+_, _-_, _*_, _/_, _^_, _≤_, _<_, compare, Ordering, Ordering·lt, Ordering·eq, Ordering·gt, zero-le}
+use Prim.Native.Nat.{ℕ, zero, suc, _+_, _-_, _*_, _/_, _^_, _≤_, _<_, compare, zero-le}
 use native.Mathlib.Nat.{le-trans, le-of-eq, le-antisymm, lt-of-lt-of-le, lt-of-not-le, not-le-of-lt, le-of-suc-le-suc, mul-le-mul, pow-succ', add-sub-of-le}
 use native.Mathlib.Omega.{arith}
 use native.Mathlib.Numerals.{add-one}
@@ -9,7 +9,7 @@ use lib.Dec.{T, leb, leb→le, nleb→lt}
 use lib.Pow.{pow-add, pow-mono}
 use lib.Ieee.{size, nearest}
 use lib.Ieee.Digits.{size-lt}
-use Rattle.number.proofs.Compare.{Cmp, cmp}
+use Rattle.number.proofs.Compare.{by-order}
 use Rattle.sqrt.specs.Sqrt.{rootIn, floorRoot}
 use Rattle.sqrt.specs.Nearest.{Nearest}
 
@@ -76,12 +76,11 @@ nearest-down n (suc q) r p e h = record { low = omega arith; high = omega arith 
 
 -- `nearest` of the definition finds it, and there is no tie: four times a whole number is no odd square
 pub near : (n q g : ℕ) → 0 < n → IsRoot n q → Nearest n g → nearest q (compare (4 * n) ((2 * q + 1) * (2 * q + 1))) ≡ g
-near n q g p r h = go (compare (4 * n) ((2 * q + 1) * (2 * q + 1))) (cmp (4 * n) ((2 * q + 1) * (2 * q + 1)))
+near n q g p r h =
+    by-order (4 * n) ((2 * q + 1) * (2 * q + 1)) (λ o. nearest q o ≡ g)
+    (λ c. nearest-unique n q g (nearest-down n q (n - q * q) p rest (omega arith)) h)
+    (λ c. absurd (omega arith))
+    (λ c. sym (add-one q) ∙ nearest-unique n (q + 1) g (nearest-up n q (n - q * q) rest (omega arith) (omega arith)) h)
   where
     rest : q * q + (n - q * q) ≡ n
     rest = add-sub-of-le (r .0)
-
-    go : (o : Ordering) → Cmp o (4 * n) ((2 * q + 1) * (2 * q + 1)) → nearest q o ≡ g
-    go Ordering·lt c = nearest-unique n q g (nearest-down n q (n - q * q) p rest (omega arith)) h
-    go Ordering·eq c = absurd (omega arith)
-    go Ordering·gt c = sym (add-one q) ∙ nearest-unique n (q + 1) g (nearest-up n q (n - q * q) rest (omega arith) (omega arith)) h

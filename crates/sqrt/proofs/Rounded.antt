@@ -8,7 +8,7 @@ use mathlib.Core.Bool.{false}
 use lib.Pow.{pow-add, pow-pos}
 use lib.Ieee.{Float, binary64, size, nearest, units}
 use lib.Ieee.Digits.{size-lt, size-le}
-use Rattle.number.proofs.Compare.{cmp-scale}
+use Rattle.number.proofs.Compare.{compare-times}
 use Rattle.number.proofs.Neighbours.{pow-lt-back}
 use Rattle.sqrt.specs.Sqrt.{floorRoot, roundRoot}
 use Rattle.sqrt.specs.Nearest.{Nearest}
@@ -60,7 +60,7 @@ module _ (M j g : ℕ) (lo : 2 ^ 104 ≤ M) (hi : M < 2 ^ 106) (h : Nearest M g)
   compared =
       let u = 2 ^ j * 2 ^ j in
       let Q = (2 * q + 1) * (2 * q + 1) in
-      ap (λ (z : ℕ). compare z (Q * u)) (sym (mul-assoc 4 M u)) ∙ sym (cmp-scale (4 * M) Q u (mul-pos (pow-pos j) (pow-pos j)))
+      ap (λ (z : ℕ). compare z (Q * u)) (sym (mul-assoc 4 M u)) ∙ sym (compare-times (4 * M) Q u (mul-pos (pow-pos j) (pow-pos j)))
 
   pub rounded : roundRoot n ≡ units binary64 false g j
   rounded =

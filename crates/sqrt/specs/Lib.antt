@@ -1,2 +1,3 @@
+pub mod SquareRoot
 pub mod Sqrt
 pub mod Nearest

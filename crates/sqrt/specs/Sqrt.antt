@@ -1,9 +1,12 @@
--- IEEE 754's squareRoot at binary64. A number is a whole multiple of 2 ^ -1074, here called a unit. Definitions only.
+-- IEEE 754's squareRoot at binary64, worked out; what it is says `IsSquareRoot`. A number is a whole multiple of 2 ^ -1074, here called a unit.
+-- Definitions only.
+use mathlib.Core.Path.{_≡_}
 use Prim.Native.Nat.{ℕ, zero, suc, _+_, _-_, _*_, _/_, _^_, compare}
 use mathlib.Core.Bool.{true, false, cond}
 use lib.Dec.{leb}
 use lib.Ieee.{Float, nan, inf, fin, binary64, size, nearest, units}
 use Rattle.number.specs.Units.{unit, mag}
+use Rattle.sqrt.specs.SquareRoot.{IsSquareRoot}
 
 -- the largest whole number whose square is at most n, for an n below 4 ^ d: one binary digit at a time
 unfoldable pub rootIn : ℕ → ℕ → ℕ
@@ -34,3 +37,8 @@ sqrtOf (inf false) = inf false
 sqrtOf (fin s zero e) = fin s zero e
 sqrtOf (fin true (suc m) e) = nan
 sqrtOf (fin false (suc m) e) = roundRoot (mag (fin false (suc m) e) * unit)
+
+-- what `sqrt` gives at x: the definition's number, and that number is the square root of x
+pub record SqrtGives (x r : Float) : Type 0 where
+  pub answer : r ≡ sqrtOf x
+  pub root : IsSquareRoot x r

@@ -10,7 +10,7 @@ ghost use lib.Dec.{T};
 ghost use lib.Ieee.{isNan};
 ghost use Prim.Native.Nat.{_+_, _*_, _^_, _≤_, _<_};
 ghost use Rattle.number.specs.Operators.{_≤?_};
-ghost use Rattle.sqrt.specs.Sqrt.{roundRoot, sqrtOf};
+ghost use Rattle.sqrt.specs.Sqrt.{roundRoot, sqrtOf, SqrtGives};
 ghost use Rattle.sqrt.specs.Nearest.{Nearest, Pieces, IsDigit, IsScaled};
 
 // 1.5 * 2 ^ 27 - 2 ^ -25: the last bits of a sum with it hold the other summand in units of 2 ^ -25, less 1.
@@ -199,7 +199,7 @@ fn scaled(exponent: u64, fraction: u64) -> Significand
 
 // The square root: of -0 it is -0, and of any other negative number a NaN.
 pub fn sqrt(x: f64) -> f64
-    ensures { λ r. ⌜ r ≡ sqrtOf x ⌝ }
+    ensures { λ r. ⌜ SqrtGives x r ⌝ }
 {
     if x != x {
         return x;

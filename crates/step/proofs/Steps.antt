@@ -5,7 +5,7 @@ use mathlib.Core.Bool.{Bool, true, false, _&&_}
 use Prim.Native.Nat.{ℕ, _≤_}
 use borrow.Author.Tests.{leb-true}
 use lib.Dec.{T, leb}
-use lib.Ieee.{Float, binary64, fits}
+use lib.Ieee.{Float}
 use lib.Ieee.Fits.{and-l, and-r}
 use Rattle.loops.specs.Loop.{pick, Flow, out}
 use Rattle.loops.proofs.Loop.{Kept, searched-keeps}
@@ -46,7 +46,7 @@ use Rattle.step.specs.declared.step.Stepped.the-variants.{Onward, Closed
 -- what holds of a new point q with parameters y, the last point being p
 pub record Fine (a b : Patch) (confusion : Float) (p : Point3D) (y : Parameters) (q : Point3D) : Type 0 where
   pub own : q ≡ pointA a y
-  pub good : T (fits binary64 confusion) → Good a b confusion y
+  pub good : Good a b confusion y
   pub chord : T (distanceOf q p ≤? longestChord)
 
 kept-chord : (chord h : Float) → T (keptOf chord h) → T (chord ≤? longestChord)
@@ -73,12 +73,12 @@ module _ (a b : Patch) (tol : Tolerance) (fit : T (toleranceFit tol)) (dir : Flo
   unfolding landingKept
   edge-chord h q t = kept-chord _ h (and-r (bits 0 ≤? dotOf (fromOf q (w .p)) (w .t)) _ t)
 
-  landing : (h : Float) (y : Parameters) → (T (fits binary64 (tol .confusion)) → Good a b (tol .confusion) y) → (t : Bool) → landingKept w h (pointA a y) ≡ t → TriedFine a b tol w (pick t (tried.Edge y (pointA a y)) tried.Nothing)
+  landing : (h : Float) (y : Parameters) → Good a b (tol .confusion) y → (t : Bool) → landingKept w h (pointA a y) ≡ t → TriedFine a b tol w (pick t (tried.Edge y (pointA a y)) tried.Nothing)
   landing h y g true e = record { own = refl; good = g; chord = edge-chord h (pointA a y) (subst T (sym e) tt) }
   landing h y g false e = tt
 
   landed-fine : (h : Float) (guess : Parameters) (pin : ℕ) (bound : Float) (m : Met) → landOf a b guess pin bound tol ≡ m → TriedFine a b tol w (afterLanding a w h m)
-  landed-fine h guess pin bound (met.At y) e = landing h y (λ k. land-good a b tol k fit guess y pin bound e) (landingKept w h (pointA a y)) refl
+  landed-fine h guess pin bound (met.At y) e = landing h y (land-good a b tol fit guess y pin bound e) (landingKept w h (pointA a y)) refl
   landed-fine h guess pin bound met.Nothing e = tt
 
   accepted-chord : (h : Float) (ty : Vector3D) (chord turned : Float) → T (acceptedOf (tol .confusion) w h ty chord turned) → T (chord ≤? longestChord)
@@ -86,7 +86,7 @@ module _ (a b : Patch) (tol : Tolerance) (fit : T (toleranceFit tol)) (dir : Flo
   accepted-chord h ty chord turned t =
       kept-chord chord h (and-l (keptOf chord h) (nearCurve (tol .confusion) chord turned && smoothOf (w .curvature) chord turned) (and-r (bits 0 <? dotOf ty (w .t)) (keptOf chord h && (nearCurve (tol .confusion) chord turned && smoothOf (w .curvature) chord turned)) t))
 
-  onward-fine : (h : Float) (y : Parameters) (ty : Vector3D) → (T (fits binary64 (tol .confusion)) → Good a b (tol .confusion) y) → TriedFine a b tol w (onwardOf (tol .confusion) w h y (pointA a y) ty)
+  onward-fine : (h : Float) (y : Parameters) (ty : Vector3D) → Good a b (tol .confusion) y → TriedFine a b tol w (onwardOf (tol .confusion) w h y (pointA a y) ty)
   unfolding onwardOf
   onward-fine h y ty g = go (acceptedOf (tol .confusion) w h ty (distanceOf (pointA a y) (w .p)) (turnOf (w .t) ty)) refl
     where
@@ -94,12 +94,12 @@ module _ (a b : Patch) (tol : Tolerance) (fit : T (toleranceFit tol)) (dir : Flo
       go true e = record { own = refl; good = g; chord = accepted-chord h ty (distanceOf (pointA a y) (w .p)) (turnOf (w .t) ty) (subst T (sym e) tt) }
       go false e = tt
 
-  tangent-fine : (h : Float) (y : Parameters) → (T (fits binary64 (tol .confusion)) → Good a b (tol .confusion) y) → (d : Direction) → TriedFine a b tol w (afterTangent a (tol .confusion) dir w h y d)
+  tangent-fine : (h : Float) (y : Parameters) → Good a b (tol .confusion) y → (d : Direction) → TriedFine a b tol w (afterTangent a (tol .confusion) dir w h y d)
   tangent-fine h y g (direction.Along d) = onward-fine h y (scaleOf d dir) g
   tangent-fine h y g direction.Missing = tt
 
   meeting-fine : (h : Float) (guess : Parameters) (m : Met) → meetInPlaneOf a b guess (addVectorOf (w .p) (scaleOf (w .t) h)) (w .t) tol ≡ m → TriedFine a b tol w (afterMeeting a b tol dir w h m)
-  meeting-fine h guess (met.At y) e = tangent-fine h y (λ k. meet-in-plane-good a b tol k fit guess y (addVectorOf (w .p) (scaleOf (w .t) h)) (w .t) e) (tangentOf a b y tol)
+  meeting-fine h guess (met.At y) e = tangent-fine h y (meet-in-plane-good a b tol fit guess y (addVectorOf (w .p) (scaleOf (w .t) h)) (w .t) e) (tangentOf a b y tol)
   meeting-fine h guess met.Nothing e = tt
 
   towards-fine : (h : Float) (guess : Parameters) (e : Exit) → TriedFine a b tol w (towards a b tol dir w h guess e)

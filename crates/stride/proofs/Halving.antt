@@ -1,5 +1,5 @@
 -- The stride loop: its invariant, what a turn makes of it, and why 37 turns leave no stride untried. Assumes nothing.
-use mathlib.Core.Path.{_≡_, refl, sym, ap, _∙_, subst}
+use mathlib.Core.Path.{_≡_, refl, sym, ap, _∙_}
 use mathlib.Core.Logic.{inl, inr}
 use mathlib.Core.Bool.{Bool, true, false}
 use Prim.Native.Nat.{ℕ, _+_, _-_, _*_, _^_, _≤_, _<_, zero-le}
@@ -7,8 +7,9 @@ use native.Mathlib.Omega.{arith}
 use native.Mathlib.Nat.{le-trans, le-of-eq, lt-of-lt-of-le, lt-of-not-le, not-le-of-lt, eq-or-lt-of-le, mul-assoc, mul-one}
 use lib.Dec.{T, lit≤, lit<}
 use lib.Pow.{pow-add, pow-pos, pow-mono}
-use lib.Ieee.{Float, nan, inf, fin, binary64, ofBits, le, fits}
+use lib.Ieee.{Float, nan, inf, fin, binary64, ofBits, fits}
 use lib.Ieee.Fits.{mul-fits}
+use lib.Ieee.Positive.{positive, positive-finite, between}
 use lib.Ieee.Scale.{finite}
 use denote.Floats.{passes}
 use Rattle.loops.specs.Loop.{out}
@@ -16,12 +17,12 @@ use Rattle.loops.proofs.Loop.{searched-again, searched-leave, searched-done}
 use Rattle.number.specs.Operators.{_⊗_, _≤?_}
 use Rattle.number.specs.Units.{mag, neg?}
 use Rattle.number.specs.Helpers.{half}
-use Rattle.number.proofs.Values.{Is, is-own, whole}
-use Rattle.number.proofs.Order.{le-through, le→units}
-use Rattle.number.proofs.Scaling.{half-exact}
+use Rattle.number.proofs.Values.{Is, is-own}
+use Rattle.number.proofs.Order.{le-through, le→mag}
+use Rattle.number.proofs.Scaling.{unsigned, half-exact}
 use Rattle.tolerance.specs.declared.Tolerance.{Tolerance}
 use Rattle.tolerance.specs.Tolerance.{leastConfusion, toleranceFit}
-use Rattle.gap.proofs.Gap.{fit-tolerance, large}
+use Rattle.gap.proofs.Gap.{fit-tolerance, least-under}
 use Rattle.patch.specs.declared.patch.Patch.{Patch}
 use Rattle.stride.specs.declared.attempt.Walker.{Walker}
 use Rattle.stride.specs.declared.attempt.Tried.{Tried}
@@ -33,19 +34,12 @@ use Rattle.stride.specs.Shorten.{longestStride, strideStep, noStride, st
 
 -- ---- a number between a fit confusion and 0.1
 
-tenth-is : Is longestStride false (mag longestStride)
-unfolding ofBits
-tenth-is = (refl, refl)
-
 tenth-small : mag longestStride < 2 ^ 1071
 unfolding ofBits
 tenth-small = lit< tt
 
-between-finite : (h : Float) → T (leastConfusion ≤? h) → T (h ≤? longestStride) → T (finite h)
-between-finite nan a b = unfold le in absurd b
-between-finite (inf true) a b = unfold ofBits le in absurd a
-between-finite (inf false) a b = unfold ofBits le in absurd b
-between-finite (fin t m e) a b = tt
+above-zero : (h : Float) → T (leastConfusion ≤? h) → T (h ≤? longestStride) → T (positive h)
+above-zero h low high = between leastConfusion h longestStride (unfold ofBits in tt) (unfold ofBits in tt) low high
 
 -- after i halvings of a stride of at most 0.1: what is left of it, if it is still at least confusion
 pub record Halved (a b : Patch) (tol : Tolerance) (dir : Float) (w : Walker) (h₀ h : Float) : Type 0 where
@@ -60,9 +54,9 @@ module _ (a b : Patch) (tol : Tolerance) (dir : Float) (w : Walker) (fit : T (to
   low : T (leastConfusion ≤? tol .confusion)
   low = fit-tolerance tol fit .0
 
-  -- a stride that is at least confusion is 2 ^ 1034 units at least, and not negative
-  at-least : (h : Float) → T (fits binary64 h) → T (finite h) → T (tol .confusion ≤? h) → (neg? h ≡ false) × (2 ^ 1034 ≤ mag h)
-  at-least h f fin-h l = large h (neg? h) (whole h f fin-h) (le-through leastConfusion (tol .confusion) h low l)
+  -- a stride that is at least confusion is at least the least confusion
+  at-least : (h : Float) → T (tol .confusion ≤? h) → T (leastConfusion ≤? h)
+  at-least h l = le-through leastConfusion (tol .confusion) h low l
 
   pub start : (h : Float) → T (fits binary64 h) → T (h ≤? longestStride) → Halved a b tol dir w h h
   unfolding halvingOf
@@ -71,14 +65,11 @@ module _ (a b : Patch) (tol : Tolerance) (dir : Float) (w : Walker) (fit : T (to
     within = zero-le;
     same = refl;
     fits-h = f;
-    finite-h = is-finite;
+    finite-h = λ t. positive-finite h (above-zero h (at-least h t) l);
     small = λ t.
-        let x = at-least h f (is-finite t) t in
-        le-trans (le-of-eq (mul-one (mag h))) (le→units h longestStride false false (mag h) (mag longestStride) (subst (λ (s : Bool). Is h s (mag h)) (x .0) (whole h f (is-finite t))) tenth-is l);
+        let p = above-zero h (at-least h t) l in
+        le-trans (le-of-eq (mul-one (mag h))) (le→mag h longestStride (positive-finite h p) (unfold ofBits in tt) (unsigned h p) l);
   }
-    where
-      is-finite : T (tol .confusion ≤? h) → T (finite h)
-      is-finite t = between-finite h (le-through leastConfusion (tol .confusion) h low t) l
 
   module _ (h₀ h : Float) (v : Halved a b tol dir w h₀ h) where
     pub ended : (tol .confusion ≤? h) ≡ false → stride.Ended ≡ halvingOf a b tol dir w h₀
@@ -89,7 +80,7 @@ module _ (a b : Patch) (tol : Tolerance) (dir : Float) (w : Walker) (fit : T (to
 
     module _ (taken : (tol .confusion ≤? h) ≡ true) where
       large-h : 2 ^ 1034 ≤ mag h
-      large-h = at-least h (v .fits-h) (v .finite-h (passes _ taken)) (passes _ taken) .1
+      large-h = least-under h (v .finite-h (passes _ taken)) (at-least h (passes _ taken))
 
       -- so fewer than 37 halvings led here
       pub below : v .i < 37

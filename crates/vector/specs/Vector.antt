@@ -38,6 +38,10 @@ addOf a b = record { x = a .x ⊕ b .x; y = a .y ⊕ b .y; z = a .z ⊕ b .z }
 unfoldable pub negOf : Vector3D → Vector3D
 negOf a = record { x = neg (a .x); y = neg (a .y); z = neg (a .z) }
 
--- Vector3D * f64, and f64 * Vector3D: products of two numbers don't depend on their order
+-- Vector3D * f64
 unfoldable pub scaleOf : Vector3D → Float → Vector3D
 scaleOf a s = record { x = a .x ⊗ s; y = a .y ⊗ s; z = a .z ⊗ s }
+
+-- f64 * Vector3D
+unfoldable pub timesOf : Float → Vector3D → Vector3D
+timesOf s a = record { x = s ⊗ a .x; y = s ⊗ a .y; z = s ⊗ a .z }

@@ -1,14 +1,17 @@
 //! `compare PART SEED COUNT` runs a comparison; `compare record-PART SEED COUNT` writes a fixed list to standard output.
 //! Parts: fdlibm, solve, surface, patch, marching, crossing, trace, check (lists of all but fdlibm and patch), and trace-alone and
-//! check-alone, which run the oracle without the proved code. Ends with 1 where anything differs, and with 2 on bad usage.
+//! check-alone, which run the oracle without the proved code; modes, what other floating-point modes of the host change; jobs, which writes
+//! job files. Ends with 1 where anything differs, and with 2 on bad usage.
 
-use oracle::compare::{check, crossing, fdlibm, marching, patch, solve, surface, trace};
+use oracle::compare::{
+    check, crossing, fdlibm, jobs, marching, modes, patch, solve, surface, trace,
+};
 use std::env;
 use std::process::ExitCode;
 
 fn usage() -> ExitCode {
     eprintln!(
-        "usage: compare fdlibm|patch|[record-]solve|[record-]surface|[record-]marching|[record-]crossing|[record-]trace|[record-]check|trace-alone|check-alone SEED COUNT"
+        "usage: compare fdlibm|patch|[record-]solve|[record-]surface|[record-]marching|[record-]crossing|[record-]trace|[record-]check|trace-alone|check-alone|modes|jobs SEED COUNT"
     );
     ExitCode::from(2)
 }
@@ -37,6 +40,8 @@ fn main() -> ExitCode {
         "record-trace" => trace::record(seed, count).is_ok(),
         "check" => check::compare(seed, count) == 0,
         "check-alone" => check::alone(seed, count) == 0,
+        "modes" => modes::compare(seed, count) == 0,
+        "jobs" => jobs::write(seed, count).is_ok(),
         "record-check" => check::record(seed, count).is_ok(),
         _ => return usage(),
     };

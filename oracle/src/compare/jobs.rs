@@ -2,11 +2,12 @@
 
 use super::marching::{is_angle, pair, through};
 use crate::intersect::marching::Chords;
-use crate::job::{Job, Side};
+use crate::job::{BYTES, Job, Side};
 use crate::random::Random;
 use crate::surfaces::{ParametricSurface, Patch};
 use crate::trace::{answer, need, unpacked};
 use std::f64::consts::TAU;
+use std::io::{self, Write};
 
 /// The kinds of job, by name.
 pub(super) const KINDS: [&str; 16] = [
@@ -380,6 +381,19 @@ pub(super) fn call(r: &mut Random, index: u64) -> Call {
         job: bytes,
         lent,
     }
+}
+
+/// Writes job files to standard output, each with the greatest cap, for tools/limits.sh; those of other lengths are left out.
+pub fn write(seed: u64, count: u64) -> io::Result<()> {
+    let (mut r, mut out) = (Random::new(seed), io::stdout().lock());
+    for index in 0..count {
+        let mut job = call(&mut r, index).job;
+        if job.len() == BYTES {
+            job[BYTES - 2..].copy_from_slice(&2000u16.to_be_bytes());
+            out.write_all(&job)?;
+        }
+    }
+    Ok(())
 }
 
 /// A job to time: windows wide enough, angles marked, the default tolerance, a cap of 100.

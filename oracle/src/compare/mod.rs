@@ -3,8 +3,9 @@
 pub mod check;
 pub mod crossing;
 pub mod fdlibm;
-pub(crate) mod jobs;
+pub mod jobs;
 pub mod marching;
+pub mod modes;
 pub mod patch;
 pub mod solve;
 pub mod surface;

@@ -1,6 +1,7 @@
 -- `answer::answer` meets its contract: each way out has its tests, and what it calls its own. Assumes nothing.
 use borrow.Author.Needs.{needs}
 use Rattle.answer.specs.Answer.{jobAnswer}
+use Rattle.answer.proofs.Told.{line-tells}
 use Rattle.answer.proofs.answer.Statement.{statement}
 use Rattle.answer.proofs.answer.Tie as tie
 
@@ -12,7 +13,10 @@ put-line-requires c κs = search needs
 
 returns : tie.Need-returns
 unfolding jobAnswer
-returns c = rw (← c .before .before .answer-of .ensures) (c .put-line .ensures)
+returns c =
+    let e = c .put-line .ensures in
+    let a = c .before .before .answer-of .ensures in
+    record { answer = rw (← a) (e .0); line = rw (← a) (e .1); passes = line-tells _ }
 
 pub answer-spec : {M : Type 1} → statement M
 answer-spec = tie.close (tie.spec answer-of-requires put-line-requires returns)

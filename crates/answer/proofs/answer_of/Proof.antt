@@ -25,7 +25,7 @@ returns c = rw (← c .before .before .before .read .ensures, c .before .read2 .
 
 returns-2 : tie.Need-returns-2
 unfolding answerOf lentNumbers
-returns-2 c = rw (← c .before .before .before .before .before .before .read .ensures, c .before .before .before .before .read3 .given .1) (c .before .trace .ensures .0)
+returns-2 c = rw (← c .before .before .before .before .before .before .read .ensures, c .before .before .before .before .read3 .given .1) (c .before .trace .ensures .answer)
 
 pub answer-of-spec : {M : Type 1} → statement M
 answer-of-spec =

@@ -1,5 +1,7 @@
 -- `capi::checked_word` meets its contract: each way out has its tests, and what it calls its own. Assumes nothing.
 use borrow.Author.Needs.{needs}
+use Rattle.refusal.proofs.Laws.{number-small}
+use Rattle.capi.proofs.Words.{refusal-fits}
 use Rattle.capi.specs.Check.{checkedWord}
 use Rattle.capi.proofs.checked_word.Statement.{statement}
 use Rattle.capi.proofs.checked_word.Tie as tie
@@ -16,8 +18,11 @@ number-requires c κs = search needs
 index-requires : tie.Need-index-requires
 index-requires c κs = search needs
 
-wrapping-add-u64-requires : tie.Need-wrapping-add-u64-requires
-wrapping-add-u64-requires c κs = search needs
+refused-word-requires : tie.Need-refused-word-requires
+refused-word-requires c κs =
+    let n = c .before in
+    let a = n .before .before in
+    (rw (n .number .ensures) (number-small (a .answer .given .0 .0)), rw (c .index .ensures) (refusal-fits (a .answer .given .1) (a .before .before .pre)))
 
 returns : tie.Need-returns
 unfolding checkedWord
@@ -25,7 +30,7 @@ returns c = rw (c .enum-told .given .1)
 
 returns-2 : tie.Need-returns-2
 unfolding checkedWord
-returns-2 c = rw (c .before .before .before .before .answer .given .1, c .wrapping-add-u64 .ensures, c .before .index .ensures, c .before .before .number .ensures)
+returns-2 c = rw (c .before .before .before .before .answer .given .1, c .refused-word .ensures, c .before .index .ensures, c .before .before .number .ensures)
 
 pub checked-word-spec : {M : Type 1} → statement M
 checked-word-spec =
@@ -35,6 +40,6 @@ checked-word-spec =
     enum-known-answer
     number-requires
     index-requires
-    wrapping-add-u64-requires
+    refused-word-requires
     returns
     returns-2)

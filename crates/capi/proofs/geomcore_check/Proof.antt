@@ -1,6 +1,7 @@
 -- `capi::geomcore_check` meets its contract: each way out has its tests, and what it calls its own. Assumes nothing.
+use mathlib.Core.Path.{sym, _∙_}
 use borrow.Author.Needs.{needs}
-use Rattle.capi.specs.Check.{checkAnswer}
+use Rattle.capi.proofs.Words.{index-told, checked-word, checked-unread}
 use Rattle.capi.proofs.geomcore_check.Statement.{statement}
 use Rattle.capi.proofs.geomcore_check.Tie as tie
 
@@ -20,15 +21,17 @@ check-requires : tie.Need-check-requires
 check-requires c κs = search needs
 
 checked-word-requires : tie.Need-checked-word-requires
-checked-word-requires c κs = search needs
+checked-word-requires c κs =
+    let g = c .before .before .before .before .before .before .before .args in
+    index-told (g .count) (g .start) (g .code) (c .check .ensures)
 
 returns : tie.Need-returns
-unfolding checkAnswer
-returns c = rw (← c .before .before .before .before .read .ensures, c .before .before .read2 .given .1, ← c .number .ensures)
+returns c = checked-unread _ _ _ _ _ (sym (c .before .before .before .before .read .ensures) ∙ c .before .before .read2 .given .1) (c .number .ensures)
 
 returns-2 : tie.Need-returns-2
-unfolding checkAnswer
-returns-2 c = rw (← c .before .before .before .before .before .read .ensures, c .before .before .before .read3 .given .1, ← c .before .check .ensures .0) (c .checked-word .ensures)
+returns-2 c =
+    let m = c .before .before .before in
+    checked-word _ _ _ _ _ (sym (m .before .before .read .ensures) ∙ m .read3 .given .1) (c .before .check .ensures) (c .checked-word .ensures)
 
 pub geomcore-check-spec : {M : Type 1} → statement M
 geomcore-check-spec =

@@ -1,5 +1,7 @@
 -- `capi::geomcore_crossing` meets its contract: each way out has its tests, and what it calls its own. Assumes nothing.
-use borrow.Author.Tests.{le-ltb, lt-ltb}
+use borrow.Author.Tests.{lt-ltb}
+use denote.Ref.{now}
+use Rattle.capi.proofs.Answers.{crossing-word}
 use borrow.Author.Needs.{needs}
 use Rattle.capi.specs.Crossing.{crossingAnswer}
 use Rattle.capi.proofs.geomcore_crossing.Statement.{statement}
@@ -22,8 +24,12 @@ crossed-word-requires : tie.Need-crossed-word-requires
 crossed-word-requires c κs = search needs
 
 returns-2 : tie.Need-returns-2
-unfolding crossingAnswer
-returns-2 c = rw (le-ltb _ _ (c .before .before .before .before .if1 .left), ← c .before .before .before .corner .ensures, ← c .before .before .corner2 .ensures, ← c .before .crossing .ensures) (c .crossed-word .ensures)
+returns-2 c =
+    let x = c .before in
+    let high = x .before in
+    let low = high .before in
+    let g = low .before .before .before .before .args in
+    crossing-word (g .confusion) (g .angular) (now (g .buffer)) (g .count) (now (g .corners)) (low .before .if1 .left) (low .corner .ensures) (high .corner2 .ensures) (x .crossing .ensures .answer) (c .crossed-word .ensures)
 
 pub geomcore-crossing-spec : {M : Type 1} → statement M
 geomcore-crossing-spec = tie.close (tie.spec returns corner-requires corner-requires-2 crossing-requires crossed-word-requires returns-2)

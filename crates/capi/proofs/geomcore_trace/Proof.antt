@@ -1,6 +1,7 @@
 -- `capi::geomcore_trace` meets its contract: each way out has its tests, and what it calls its own. Assumes nothing.
+use mathlib.Core.Path.{sym, _∙_}
 use borrow.Author.Needs.{needs}
-use Rattle.capi.specs.Trace.{traceAnswer}
+use Rattle.capi.proofs.Words.{bounded, traced-word, traced-unread}
 use Rattle.capi.proofs.geomcore_trace.Statement.{statement}
 use Rattle.capi.proofs.geomcore_trace.Tie as tie
 
@@ -20,18 +21,19 @@ trace-requires : tie.Need-trace-requires
 trace-requires c κs = search needs
 
 traced-word-requires : tie.Need-traced-word-requires
-traced-word-requires c κs = search needs
+traced-word-requires c κs = bounded _ (c .before .before .trace .ensures)
 
 returns : tie.Need-returns
-unfolding traceAnswer
-returns c = rw (← c .before .before .before .before .read .ensures, c .before .before .read2 .given .1, ← c .number .ensures)
+returns c = traced-unread _ (sym (c .before .before .before .before .read .ensures) ∙ c .before .before .read2 .given .1) (c .number .ensures)
 
 same-length : tie.Need-same-length
 same-length c = search needs
 
 returns-2 : tie.Need-returns-2
-unfolding traceAnswer
-returns-2 c = rw (← c .before .before .before .before .before .before .before .before .read .ensures, c .before .before .before .before .before .before .read3 .given .1, ← c .before .before .before .trace .ensures .0, ← c .before .before .before .trace .ensures .1 .0, ← c .traced-word .ensures)
+returns-2 c =
+    let d = c .before .before .before in
+    let m = d .before .before .before in
+    traced-word _ _ (sym (m .before .before .read .ensures) ∙ m .read3 .given .1) _ _ (d .trace .ensures) (c .traced-word .ensures)
 
 pub geomcore-trace-spec : {M : Type 1} → statement M
 geomcore-trace-spec =

@@ -1,6 +1,8 @@
 -- `capi::point_on` meets its contract: each way out has its tests, and what it calls its own. Assumes nothing.
 use borrow.Author.Needs.{needs}
-use borrow.Author.Tests.{le-ltb, lt-ltb}
+use borrow.Author.Tests.{lt-ltb}
+use denote.Ref.{now}
+use Rattle.capi.proofs.Answers.{on-refused, on-located}
 use Rattle.capi.specs.Point.{pointOn}
 use Rattle.capi.proofs.point_on.Statement.{statement}
 use Rattle.capi.proofs.point_on.Tie as tie
@@ -25,15 +27,21 @@ put-requires : tie.Need-put-requires
 put-requires c κs = search needs
 
 returns-2 : tie.Need-returns-2
-unfolding pointOn
-returns-2 c = rw (le-ltb _ _ (c .before .before .before .before .before .if1 .left), ← c .before .before .before .before .point .ensures, c .before .before .located .given .1, ← c .number .ensures)
+returns-2 c =
+    let m = c .before .before in
+    let p = m .before .before in
+    let g = p .before .before .before .args in
+    on-refused (g .patch) (g .u) (g .v) (now (g .out)) (p .before .if1 .left) (p .point .ensures .answer) (m .located .given .1) (c .number .ensures)
 
 same-length : tie.Need-same-length
 same-length c = search needs
 
 returns-3 : tie.Need-returns-3
-unfolding pointOn
-returns-3 c = rw (le-ltb _ _ (c .before .before .before .before .before .before .before .before .if1 .left), ← c .before .before .before .before .before .before .before .point .ensures, c .before .before .before .before .before .located2 .given .1, ← c .before .before .put .ensures)
+returns-3 c =
+    let m = c .before .before .before .before .before in
+    let p = m .before .before in
+    let g = p .before .before .before .args in
+    on-located (g .patch) (g .u) (g .v) (now (g .out)) (p .before .if1 .left) (p .point .ensures .answer) (m .located2 .given .1) (c .before .before .put .ensures)
 
 pub point-on-spec : {M : Type 1} → statement M
 point-on-spec =

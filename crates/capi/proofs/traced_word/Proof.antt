@@ -1,6 +1,7 @@
 -- `capi::traced_word` meets its contract: each way out has its tests, and what it calls its own. Assumes nothing.
+use native.Mathlib.Omega.{arith}
 use borrow.Author.Needs.{needs}
-use Rattle.refusal.proofs.Laws.{number-not-0}
+use Rattle.capi.proofs.Words.{line-fits}
 use Rattle.capi.specs.Trace.{tracedWord}
 use Rattle.capi.proofs.traced_word.Statement.{statement}
 use Rattle.capi.proofs.traced_word.Tie as tie
@@ -8,11 +9,10 @@ use Rattle.capi.proofs.traced_word.Tie as tie
 enum-known-answer : tie.Need-enum-known-answer
 enum-known-answer c = search needs
 
-wrapping-add-u64-requires : tie.Need-wrapping-add-u64-requires
-wrapping-add-u64-requires c κs = search needs
-
-wrapping-add-u64-requires-2 : tie.Need-wrapping-add-u64-requires-2
-wrapping-add-u64-requires-2 c κs = search needs
+line-word-requires : tie.Need-line-word-requires
+line-word-requires c κs =
+    let a = c .before in
+    line-fits (a .answer .given .1) (a .before .before .pre)
 
 enum-known-answer-2 : tie.Need-enum-known-answer-2
 enum-known-answer-2 c = search needs
@@ -22,19 +22,18 @@ number-requires c κs = search needs
 
 returns : tie.Need-returns
 unfolding tracedWord
-returns c = rw (c .before .before .before .answer .given .1, c .wrapping-add-u642 .ensures, c .before .wrapping-add-u64 .ensures)
+returns c = rw (c .before .before .answer .given .1) (omega (arith, c .line-word .ensures))
 
 returns-2 : tie.Need-returns-2
 unfolding tracedWord
-returns-2 c = rw (c .before .before .answer2 .given .1, number-not-0) (c .number .ensures)
+returns-2 c = rw (c .before .before .answer2 .given .1) (omega (arith, c .number .ensures))
 
 pub traced-word-spec : {M : Type 1} → statement M
 traced-word-spec =
     tie.close
     (tie.spec
     enum-known-answer
-    wrapping-add-u64-requires
-    wrapping-add-u64-requires-2
+    line-word-requires
     enum-known-answer-2
     number-requires
     returns

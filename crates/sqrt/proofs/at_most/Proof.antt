@@ -21,7 +21,7 @@ sqrt-requires : tie.Need-sqrt-requires
 sqrt-requires c κs = search needs
 
 returns-3 : tie.Need-returns-3
-returns-3 c = rw (c .sqrt .ensures)
+returns-3 c = rw (c .sqrt .ensures .answer)
 
 pub at-most-spec : {M : Type 1} → statement M
 at-most-spec = tie.close (tie.spec returns returns-2 sqrt-requires returns-3)

@@ -1,4 +1,4 @@
--- `sqrt::sqrt` meets its contract. Each arm is a fact of `Fields` on the three fields. Assumes nothing.
+-- `sqrt::sqrt` meets its contract. Each arm is a fact of `Fields` on the three fields, and `gives` turns the equation into the contract. Assumes nothing.
 use mathlib.Core.Path.{_≡_, sym, ap, _∙_, subst}
 use Prim.Native.Nat.{ℕ, _/_, _%_, _^_, _≤_, _<_}
 use native.Mathlib.Omega.{arith}
@@ -12,6 +12,7 @@ use lib.Ieee.Bits.{ofBits-toBits, toBits-lt, is-true, is-false}
 use Rattle.sqrt.specs.Sqrt.{sqrtOf, roundRoot}
 use Rattle.number.proofs.Sign.{is-nan, no-nan}
 use Rattle.number.proofs.Values.{bits-is}
+use Rattle.sqrt.proofs.SquareRoot.{gives}
 use Rattle.sqrt.proofs.Fields.{at, zero-field, positive, infinite, negative}
 use Rattle.sqrt.proofs.sqrt.Statement.{statement}
 use Rattle.sqrt.proofs.sqrt.Tie as tie
@@ -63,7 +64,10 @@ root-of-requires c κs = let s = c .scaled .ensures in (s .lo, s .hi, s .top)
 -- a NaN
 returns : tie.Need-returns
 unfolding sqrtOf
-returns c = let e = is-nan (c .before .args .x) (c .if1 .taken) in e ∙ sym (ap sqrtOf e)
+returns c =
+    let s = c .before in
+    let e = is-nan (s .args .x) (c .if1 .taken) in
+    gives (s .args .x) _ (subst T (sym (s .good .0 .1)) tt) (e ∙ sym (ap sqrtOf e))
 
 -- a zero
 returns-2 : tie.Need-returns-2
@@ -74,14 +78,15 @@ returns-2 c =
     let f = bitAnd (b t) 4503599627370495 in
     let z : (k ≡ 0) × (f ≡ 0) = (omega (arith, c .if2 .taken), omega (arith, c .if2 .taken)) in
     let e : x t ≡ at s 0 0 = is t ∙ ap (λ (y : ℕ). at s y f) (z .0) ∙ ap (λ (y : ℕ). at s 0 y) (z .1) in
-    e ∙ sym (zero-field s) ∙ sym (ap sqrtOf e)
+    gives (x t) _ (held t) (e ∙ sym (zero-field s) ∙ sym (ap sqrtOf e))
 
 -- negative
 returns-3 : tie.Need-returns-3
 unfolding ofBits div
 returns-3 c =
     let t = c .before .before in
-    sym (ap sqrtOf (is-neg t (c .if3 .taken)) ∙ negative (bitAnd (b t / 2 ^ 52) 2047) (bitAnd (b t) 4503599627370495) (exp-le t) (omega (arith, c .before .if2 .left)))
+    gives (x t) _ (held t)
+    (sym (ap sqrtOf (is-neg t (c .if3 .taken)) ∙ negative (bitAnd (b t / 2 ^ 52) 2047) (bitAnd (b t) 4503599627370495) (exp-le t) (omega (arith, c .before .if2 .left))))
 
 -- the infinity
 returns-4 : tie.Need-returns-4
@@ -89,7 +94,7 @@ returns-4 c =
     let t = c .before .before .before in
     let f = bitAnd (b t) 4503599627370495 in
     let e : x t ≡ at false 2047 f = is-pos t (c .before .if3 .left) ∙ ap (λ (k : ℕ). at false k f) (c .if4 .taken) in
-    e ∙ sym (infinite f) ∙ sym (ap sqrtOf e)
+    gives (x t) _ (held t) (e ∙ sym (infinite f) ∙ sym (ap sqrtOf e))
 
 -- finite, and above zero
 returns-5 : tie.Need-returns-5
@@ -98,9 +103,10 @@ returns-5 c =
     let t = s .before .before .before in
     let f = bitAnd (b t) 4503599627370495 in
     let k = bitAnd (b t / 2 ^ 52) 2047 in
-    c .root-of .ensures
+    gives (x t) _ (held t)
+    (c .root-of .ensures
     ∙ ap roundRoot (c .before .scaled .ensures .is)
-    ∙ sym (ap sqrtOf (is-pos t (s .before .if3 .left)) ∙ positive k f (omega (arith, exp-le t, s .if4 .left)) (omega (arith, s .before .before .if2 .left)))
+    ∙ sym (ap sqrtOf (is-pos t (s .before .if3 .left)) ∙ positive k f (omega (arith, exp-le t, s .if4 .left)) (omega (arith, s .before .before .if2 .left))))
 
 pub sqrt-spec : {M : Type 1} → statement M
 sqrt-spec = tie.close (tie.spec returns float-to-bits-bits add-if2 scaled-requires root-of-requires returns-2 returns-3 returns-4 returns-5)

@@ -1,6 +1,6 @@
 -- `analytic::analytic::cylinder_derivatives` meets its contract: each way out has its tests, and what it calls its own. Assumes nothing.
 use borrow.Author.Needs.{needs}
-use Rattle.analytic.specs.Analytic.{cylinderDerivatives}
+use Rattle.analytic.proofs.Scaled.{cylinder-scaled}
 use Rattle.analytic.proofs.analytic.cylinder_derivatives.Statement.{statement}
 use Rattle.analytic.proofs.analytic.cylinder_derivatives.Tie as tie
 
@@ -26,8 +26,7 @@ z-direction-requires : tie.Need-z-direction-requires
 z-direction-requires c κs = search needs
 
 returns : tie.Need-returns
-unfolding cylinderDerivatives
-returns c = rw (c .z-direction .ensures, c .before .add .ensures, c .before .before .scale2 .ensures, c .before .before .before .scale .ensures, c .before .before .before .before .y-direction .ensures, c .before .before .before .before .before .x-direction .ensures, c .before .before .before .before .before .before .sin-cos .ensures .0, c .before .before .before .before .before .before .sin-cos .ensures .1)
+returns c = rw (cylinder-scaled, c .z-direction .ensures, c .before .add .ensures, c .before .before .scale2 .ensures, c .before .before .before .scale .ensures, c .before .before .before .before .y-direction .ensures, c .before .before .before .before .before .x-direction .ensures, c .before .before .before .before .before .before .sin-cos .ensures .0, c .before .before .before .before .before .before .sin-cos .ensures .1)
 
 pub cylinder-derivatives-spec : {M : Type 1} → statement M
 cylinder-derivatives-spec =

@@ -1,7 +1,7 @@
--- `certificate::check::check` meets its contract: its answer is the definition's, and that is passed exactly when `Passes` holds. Assumes nothing.
+-- `certificate::check::check` meets its contract: each way out has its tests, and what it calls its own. Assumes nothing.
 use denote.Ref.{now}
 use borrow.Author.Needs.{needs}
-use Rattle.certificate.proofs.Passed.{refused-before, claim-lent, answered, settled}
+use Rattle.certificate.proofs.Passed.{refused-before, claim-lent, answered}
 use Rattle.certificate.proofs.check.check.Statement.{statement}
 use Rattle.certificate.proofs.check.check.Tie as tie
 
@@ -20,20 +20,17 @@ points-answer-requires c κs =
     let g = w .before .before .args in
     claim-lent (g .a) (g .b) (g .tol) (now (g .trace)) (g .count) (g .start) (g .closing) (w .claim-answer .ensures) (c .enum-told .given .1)
 
--- `.shared-slice-known`: the lent numbers are binary64
 returns : tie.Need-returns
 returns c =
     let w = c .before .before .before in
     let g = w .before .before .args in
-    settled (g .a) (g .b) (g .tol) (now (g .trace)) (g .count) (g .start) (g .closing) (w .before .shared-slice-known .given)
-    (refused-before (g .a) (g .b) (g .tol) (now (g .trace)) (g .count) (g .start) (g .closing) (w .claim-answer .ensures) (c .before .claim .given .1))
+    refused-before (g .a) (g .b) (g .tol) (now (g .trace)) (g .count) (g .start) (g .closing) (w .claim-answer .ensures) (c .before .claim .given .1)
 
 returns-2 : tie.Need-returns-2
 returns-2 c =
     let w = c .before .before .before in
     let g = w .before .before .args in
-    settled (g .a) (g .b) (g .tol) (now (g .trace)) (g .count) (g .start) (g .closing) (w .before .shared-slice-known .given)
-    (answered (g .a) (g .b) (g .tol) (now (g .trace)) (g .count) (g .start) (g .closing) (w .claim-answer .ensures) (c .before .enum-told .given .1) (c .points-answer .ensures))
+    answered (g .a) (g .b) (g .tol) (now (g .trace)) (g .count) (g .start) (g .closing) (w .claim-answer .ensures) (c .before .enum-told .given .1) (c .points-answer .ensures)
 
 pub check-spec : {M : Type 1} → statement M
 check-spec =

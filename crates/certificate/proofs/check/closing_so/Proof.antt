@@ -7,7 +7,7 @@ use Rattle.certificate.proofs.check.closing_so.Tie as tie
 
 returns : tie.Need-returns
 unfolding closingSo
-returns c = rw (eq-eqb _ _ (c .if1 .taken))
+returns c = rw (eq-eqb _ 0 (c .if1 .taken))
 
 sub-row-of : tie.Need-sub-row-of
 sub-row-of c = search needs
@@ -25,17 +25,17 @@ returns-2 : tie.Need-returns-2
 unfolding closingSo
 returns-2 c =
     let s = c .before .before .before in
-    rw (c .same-row .ensures, c .before .row-of2 .ensures, c .before .before .row-of .ensures, ne-eqb _ _ (s .before .before .if1 .left), eq-eqb _ _ (s .before .if2 .taken), eq-eqb _ _ (s .if3 .taken))
+    rw (c .same-row .ensures, c .before .row-of2 .ensures, c .before .before .row-of .ensures, ne-eqb _ 0 (s .before .before .if1 .left), eq-eqb _ 1 (s .before .if2 .taken), eq-eqb _ 0 (s .if3 .taken))
 
 returns-3 : tie.Need-returns-3
 unfolding closingSo
-returns-3 c = rw (ne-eqb _ _ (c .before .before .if1 .left), eq-eqb _ _ (c .before .if2 .taken), ne-eqb _ _ (c .if3 .left))
+returns-3 c = rw (ne-eqb _ 0 (c .before .before .if1 .left), eq-eqb _ 1 (c .before .if2 .taken), ne-eqb _ 0 (c .if3 .left))
 
 returns-4 : tie.Need-returns-4
 unfolding closingSo
 returns-4 c =
     let s = c .before in
-    rw (ne-eqb _ _ (s .before .before .if1 .left), ne-eqb _ _ (s .before .if2 .left), eq-eqb _ _ (s .if4 .taken), lt-ltb _ _ (c .if5 .taken))
+    rw (ne-eqb _ 0 (s .before .before .if1 .left), ne-eqb _ 1 (s .before .if2 .left), eq-eqb _ 2 (s .if4 .taken), lt-ltb _ 2 (c .if5 .taken))
 
 row-of-requires-3 : tie.Need-row-of-requires-3
 row-of-requires-3 c κs = search needs
@@ -51,11 +51,11 @@ unfolding closingSo
 returns-5 c =
     let e = c .before .before .before in
     let s = e .before in
-    rw (c .same-row2 .ensures, c .before .row-of4 .ensures, c .before .before .row-of3 .ensures, ne-eqb _ _ (s .before .before .if1 .left), ne-eqb _ _ (s .before .if2 .left), eq-eqb _ _ (s .if4 .taken), le-ltb _ _ (e .if5 .left))
+    rw (c .same-row2 .ensures, c .before .row-of4 .ensures, c .before .before .row-of3 .ensures, ne-eqb _ 0 (s .before .before .if1 .left), ne-eqb _ 1 (s .before .if2 .left), eq-eqb _ 2 (s .if4 .taken), le-ltb _ 2 (e .if5 .left))
 
 returns-6 : tie.Need-returns-6
 unfolding closingSo
-returns-6 c = rw (ne-eqb _ _ (c .before .before .if1 .left), ne-eqb _ _ (c .before .if2 .left), ne-eqb _ _ (c .if4 .left))
+returns-6 c = rw (ne-eqb _ 0 (c .before .before .if1 .left), ne-eqb _ 1 (c .before .if2 .left), ne-eqb _ 2 (c .if4 .left))
 
 pub closing-so-spec : {M : Type 1} → statement M
 closing-so-spec =

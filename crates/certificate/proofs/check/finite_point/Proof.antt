@@ -15,7 +15,7 @@ is-finite-requires-3 c κs = search needs
 
 returns : tie.Need-returns
 unfolding finitePoint
-returns c = rw (← c .before .before .before .before .is-finite .ensures, c .before .before .before .if1 .taken, ← c .before .before .is-finite2 .ensures, c .before .if2 .taken, ← c .is-finite3 .ensures)
+returns c = rw (← c .before .before .before .before .is-finite .ensures, c .before .before .before .if1 .taken, ← c .before .before .is-finite2 .ensures, c .before .if2 .taken) (c .is-finite3 .ensures)
 
 returns-2 : tie.Need-returns-2
 unfolding finitePoint

@@ -12,7 +12,7 @@ same-point-requires c κs = search needs
 
 returns : tie.Need-returns
 unfolding ownOf
-returns c = rw (← c .before .before .finite-point .ensures, c .before .if1 .taken, ← c .same-point .ensures)
+returns c = rw (← c .before .before .finite-point .ensures, c .before .if1 .taken) (c .same-point .ensures)
 
 returns-2 : tie.Need-returns-2
 unfolding ownOf

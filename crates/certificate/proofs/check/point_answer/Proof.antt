@@ -1,5 +1,7 @@
 -- `certificate::check::point_answer` meets its contract: each way out has its tests; n, o, e are the places of the window's, the point's and the gap's. Assumes nothing.
 use borrow.Author.Tests.{not-false, not-true}
+use mathlib.Core.Path.{_≡_}
+use Rattle.patch.specs.Patch.{insideOf}
 use Rattle.certificate.specs.Check.{pointAnswer}
 use borrow.Author.Needs.{needs}
 use Rattle.certificate.proofs.check.point_answer.Statement.{statement}
@@ -10,7 +12,11 @@ inside-requires c κs = search needs
 
 returns : tie.Need-returns
 unfolding pointAnswer
-returns c = rw (← c .before .inside .ensures, not-true (c .before .inside .result) (c .if1 .taken))
+returns c =
+    let n = c .before in
+    let g = n .before .args in
+    let inside : n .inside .result ≡ insideOf (g .a) (g .b) (g .x) = n .inside .ensures in
+    rw (← inside, not-true (n .inside .result) (c .if1 .taken))
 
 eval-point-requires : tie.Need-eval-point-requires
 eval-point-requires c κs = search needs

@@ -15,7 +15,7 @@ same-bits-requires-3 c κs = search needs
 
 returns : tie.Need-returns
 unfolding samePoint
-returns c = rw (← c .before .before .before .before .same-bits .ensures, c .before .before .before .if1 .taken, ← c .before .before .same-bits2 .ensures, c .before .if2 .taken, ← c .same-bits3 .ensures)
+returns c = rw (← c .before .before .before .before .same-bits .ensures, c .before .before .before .if1 .taken, ← c .before .before .same-bits2 .ensures, c .before .if2 .taken) (c .same-bits3 .ensures)
 
 returns-2 : tie.Need-returns-2
 unfolding samePoint

@@ -52,7 +52,8 @@ same-bits-requires-7 c κs = search needs
 
 returns-7 : tie.Need-returns-7
 unfolding sameRow
-returns-7 c = rw (← c .before .before .before .before .before .before .before .before .before .before .before .before .same-bits .ensures, not-false (c .before .before .before .before .before .before .before .before .before .before .before .before .same-bits .result) (c .before .before .before .before .before .before .before .before .before .before .before .if1 .left), ← c .before .before .before .before .before .before .before .before .before .before .same-bits2 .ensures, not-false (c .before .before .before .before .before .before .before .before .before .before .same-bits2 .result) (c .before .before .before .before .before .before .before .before .before .if2 .left), ← c .before .before .before .before .before .before .before .before .same-bits3 .ensures, not-false (c .before .before .before .before .before .before .before .before .same-bits3 .result) (c .before .before .before .before .before .before .before .if3 .left), ← c .before .before .before .before .before .before .same-bits4 .ensures, not-false (c .before .before .before .before .before .before .same-bits4 .result) (c .before .before .before .before .before .if4 .left), ← c .before .before .before .before .same-bits5 .ensures, not-false (c .before .before .before .before .same-bits5 .result) (c .before .before .before .if5 .left), ← c .before .before .same-bits6 .ensures, not-false (c .before .before .same-bits6 .result) (c .before .if6 .left), ← c .same-bits7 .ensures)
+returns-7 c = rw (← c .before .before .before .before .before .before .before .before .before .before .before .before .same-bits .ensures, not-false (c .before .before .before .before .before .before .before .before .before .before .before .before .same-bits .result) (c .before .before .before .before .before .before .before .before .before .before .before .if1 .left), ← c .before .before .before .before .before .before .before .before .before .before .same-bits2 .ensures, not-false (c .before .before .before .before .before .before .before .before .before .before .same-bits2 .result) (c .before .before .before .before .before .before .before .before .before .if2 .left), ← c .before .before .before .before .before .before .before .before .same-bits3 .ensures, not-false (c .before .before .before .before .before .before .before .before .same-bits3 .result) (c .before .before .before .before .before .before .before .if3 .left), ← c .before .before .before .before .before .before .same-bits4 .ensures, not-false (c .before .before .before .before .before .before .same-bits4 .result) (c .before .before .before .before .before .if4 .left), ← c .before .before .before .before .same-bits5 .ensures, not-false (c .before .before .before .before .same-bits5 .result) (c .before .before .before .if5 .left), ← c .before .before .same-bits6 .ensures, not-false (c .before .before .same-bits6 .result) (c .before .if6 .left))
+    (c .same-bits7 .ensures)
 
 pub same-row-spec : {M : Type 1} → statement M
 same-row-spec =

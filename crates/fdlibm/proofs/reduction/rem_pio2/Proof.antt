@@ -1,6 +1,9 @@
 -- `rem_pio2` meets its contract: each way out has its tests. Assumes nothing.
+use mathlib.Core.Path.{refl, ap}
 use borrow.Author.Needs.{needs}
-use borrow.Author.Tests.{lt-ltb, le-ltb, le-leb, lt-leb, ne-eqb}
+use borrow.Author.Tests.{lt-ltb, le-ltb, le-leb, lt-leb, eq-eqb, ne-eqb}
+use Rattle.loops.proofs.Choice.{pick-taken, pick-left}
+use Rattle.fdlibm.specs.declared.reduction.Reduced.the-variants.{To}
 use Rattle.fdlibm.specs.Reduction.{remPio2}
 use Rattle.fdlibm.proofs.reduction.rem_pio2.Statement.{statement}
 use Rattle.fdlibm.proofs.reduction.rem_pio2.Tie as tie
@@ -25,31 +28,57 @@ turned-back-requires c κs = search needs
 
 returns : tie.Need-returns
 unfolding remPio2
-returns c = rw (← c .before .to-bits .ensures, le-leb _ _ (c .if1 .taken))
+returns c = rw (← c .before .to-bits .ensures) (pick-taken _ (le-leb _ _ (c .if1 .taken)) refl)
 
 returns-2 : tie.Need-returns-2
 unfolding remPio2
-returns-2 c = rw (c .near-above .ensures, ← c .before .before .before .before .to-bits .ensures, lt-leb _ _ (c .before .before .before .if1 .left), lt-ltb _ _ (c .before .before .if2 .taken), c .before .if3 .taken)
+returns-2 c =
+    let i2 = c .before .before in
+    rw (c .near-above .ensures, ← i2 .before .before .to-bits .ensures)
+    (pick-left _ (lt-leb _ _ (i2 .before .if1 .left)) (pick-taken _ (lt-ltb _ _ (i2 .if2 .taken)) (ap To (pick-taken _ (eq-eqb _ _ (c .before .if3 .taken)) refl))))
 
 returns-3 : tie.Need-returns-3
 unfolding remPio2
-returns-3 c = rw (c .near-below .ensures, ← c .before .before .before .before .to-bits .ensures, lt-leb _ _ (c .before .before .before .if1 .left), lt-ltb _ _ (c .before .before .if2 .taken), ne-eqb _ _ (c .before .if3 .left))
+returns-3 c =
+    let i2 = c .before .before in
+    rw (c .near-below .ensures, ← i2 .before .before .to-bits .ensures)
+    (pick-left _ (lt-leb _ _ (i2 .before .if1 .left)) (pick-taken _ (lt-ltb _ _ (i2 .if2 .taken)) (ap To (pick-left _ (ne-eqb _ _ (c .before .if3 .left)) refl))))
 
 returns-4 : tie.Need-returns-4
 unfolding remPio2
-returns-4 c = rw (c .before .medium .ensures, c .before .before .abs .ensures, ← c .before .before .before .before .before .before .to-bits .ensures, lt-leb _ _ (c .before .before .before .before .before .if1 .left), le-ltb _ _ (c .before .before .before .before .if2 .left), le-leb _ _ (c .before .before .before .if4 .taken), c .if5 .taken)
+returns-4 c =
+    let i4 = c .before .before .before in
+    let i1 = i4 .before .before in
+    rw (c .before .medium .ensures, c .before .before .abs .ensures, ← i1 .before .to-bits .ensures)
+    (pick-left _ (lt-leb _ _ (i1 .if1 .left)) (pick-left _ (le-ltb _ _ (i4 .before .if2 .left))
+    (pick-taken _ (le-leb _ _ (i4 .if4 .taken)) (ap To (pick-taken _ (eq-eqb _ _ (c .if5 .taken)) refl)))))
 
 returns-5 : tie.Need-returns-5
 unfolding remPio2
-returns-5 c = rw (c .turned-back .ensures, c .before .before .medium .ensures, c .before .before .before .abs .ensures, ← c .before .before .before .before .before .before .before .to-bits .ensures, lt-leb _ _ (c .before .before .before .before .before .before .if1 .left), le-ltb _ _ (c .before .before .before .before .before .if2 .left), le-leb _ _ (c .before .before .before .before .if4 .taken), ne-eqb _ _ (c .before .if5 .left))
+returns-5 c =
+    let i4 = c .before .before .before .before in
+    let i1 = i4 .before .before in
+    rw (c .turned-back .ensures, c .before .before .medium .ensures, c .before .before .before .abs .ensures, ← i1 .before .to-bits .ensures)
+    (pick-left _ (lt-leb _ _ (i1 .if1 .left)) (pick-left _ (le-ltb _ _ (i4 .before .if2 .left))
+    (pick-taken _ (le-leb _ _ (i4 .if4 .taken)) (ap To (pick-left _ (ne-eqb _ _ (c .before .if5 .left)) refl)))))
 
 returns-6 : tie.Need-returns-6
 unfolding remPio2
-returns-6 c = rw (← c .before .before .before .before .to-bits .ensures, lt-leb _ _ (c .before .before .before .if1 .left), le-ltb _ _ (c .before .before .if2 .left), lt-leb _ _ (c .before .if4 .left), le-leb _ _ (c .if6 .taken))
+returns-6 c =
+    let i4 = c .before in
+    let i1 = i4 .before .before in
+    rw (← i1 .before .to-bits .ensures)
+    (pick-left _ (lt-leb _ _ (i1 .if1 .left)) (pick-left _ (le-ltb _ _ (i4 .before .if2 .left))
+    (pick-left _ (lt-leb _ _ (i4 .if4 .left)) (pick-taken _ (le-leb _ _ (c .if6 .taken)) refl))))
 
 returns-7 : tie.Need-returns-7
 unfolding remPio2
-returns-7 c = rw (← c .before .before .before .before .to-bits .ensures, lt-leb _ _ (c .before .before .before .if1 .left), le-ltb _ _ (c .before .before .if2 .left), lt-leb _ _ (c .before .if4 .left), lt-leb _ _ (c .if6 .left))
+returns-7 c =
+    let i4 = c .before in
+    let i1 = i4 .before .before in
+    rw (← i1 .before .to-bits .ensures)
+    (pick-left _ (lt-leb _ _ (i1 .if1 .left)) (pick-left _ (le-ltb _ _ (i4 .before .if2 .left))
+    (pick-left _ (lt-leb _ _ (i4 .if4 .left)) (pick-left _ (lt-leb _ _ (c .if6 .left)) refl))))
 
 pub rem-pio2-spec : {M : Type 1} → statement M
 rem-pio2-spec =

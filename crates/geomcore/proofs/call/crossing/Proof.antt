@@ -1,5 +1,7 @@
--- `geomcore::call::crossing` meets its contract: it is that of the function it calls. Assumes nothing.
+-- `geomcore::call::crossing` meets its contract; what yes means is `crossing-promised`. Assumes nothing.
 use borrow.Author.Needs.{needs}
+use denote.Ref.{now}
+use Rattle.passing.proofs.Promised.{crossing-promised}
 use Rattle.geomcore.proofs.call.crossing.Statement.{statement}
 use Rattle.geomcore.proofs.call.crossing.Tie as tie
 
@@ -7,7 +9,9 @@ crossing-requires : tie.Need-crossing-requires
 crossing-requires c κs = search needs
 
 returns : tie.Need-returns
-returns c = c .crossing .ensures
+returns c =
+    let g = c .before .before .args in
+    crossing-promised (g .tol) (now (g .points)) (g .count) (g .b) (c .crossing .ensures)
 
 pub crossing-spec : {M : Type 1} → statement M
 crossing-spec = tie.close (tie.spec crossing-requires returns)

@@ -7,7 +7,7 @@ point-requires : tie.Need-point-requires
 point-requires c κs = search needs
 
 returns : tie.Need-returns
-returns c = c .point .ensures
+returns c = record { answer = c .point .ensures }
 
 pub point-spec : {M : Type 1} → statement M
 point-spec = tie.close (tie.spec point-requires returns)

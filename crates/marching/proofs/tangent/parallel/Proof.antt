@@ -41,7 +41,7 @@ max-requires : tie.Need-max-requires
 max-requires c κs = search needs
 
 returns-2 : tie.Need-returns-2
-returns-2 c = rw (c .max .ensures, c .before .sqrt2 .ensures, c .before .before .sqrt .ensures)
+returns-2 c = rw (c .max .ensures, c .before .sqrt2 .ensures .answer, c .before .before .sqrt .ensures .answer)
 
 pub parallel-spec : {M : Type 1} → statement M
 parallel-spec =

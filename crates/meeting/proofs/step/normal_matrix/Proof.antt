@@ -1,6 +1,6 @@
 -- `meeting::step::normal_matrix` meets its contract: each way out has its tests, and what it calls its own. Assumes nothing.
 use borrow.Author.Needs.{needs}
-use Rattle.meeting.specs.Step.{normalMatrix}
+use Rattle.meeting.proofs.Symmetric.{symmetric}
 use Rattle.meeting.proofs.step.normal_matrix.Statement.{statement}
 use Rattle.meeting.proofs.step.normal_matrix.Tie as tie
 
@@ -23,8 +23,7 @@ dot4-requires-6 : tie.Need-dot4-requires-6
 dot4-requires-6 c κs = search needs
 
 returns : tie.Need-returns
-unfolding normalMatrix
-returns c = rw (c .dot46 .ensures, c .before .dot45 .ensures, c .before .before .dot44 .ensures, c .before .before .before .dot43 .ensures, c .before .before .before .before .dot42 .ensures, c .before .before .before .before .before .dot4 .ensures)
+returns c = rw (symmetric, c .dot46 .ensures, c .before .dot45 .ensures, c .before .before .dot44 .ensures, c .before .before .before .dot43 .ensures, c .before .before .before .before .dot42 .ensures, c .before .before .before .before .before .dot4 .ensures)
 
 pub normal-matrix-spec : {M : Type 1} → statement M
 normal-matrix-spec = tie.close (tie.spec dot4-requires dot4-requires-2 dot4-requires-3 dot4-requires-4 dot4-requires-5 dot4-requires-6 returns)

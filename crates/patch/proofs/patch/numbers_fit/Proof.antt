@@ -36,23 +36,23 @@ both-fit-requires-2 c κs = search needs
 
 returns : tie.Need-returns
 unfolding numbersFit
-returns c = rw (c .before .before .surface .given .1, ← c .frame-fit .ensures)
+returns c = rw (c .before .before .surface .given .1) (c .frame-fit .ensures)
 
 returns-2 : tie.Need-returns-2
 unfolding numbersFit
-returns-2 c = rw (c .before .before .surface2 .given .1, ← c .one-fits .ensures)
+returns-2 c = rw (c .before .before .surface2 .given .1) (c .one-fits .ensures)
 
 returns-3 : tie.Need-returns-3
 unfolding numbersFit
-returns-3 c = rw (c .before .before .surface3 .given .1, ← c .both-fit .ensures)
+returns-3 c = rw (c .before .before .surface3 .given .1) (c .both-fit .ensures)
 
 returns-4 : tie.Need-returns-4
 unfolding numbersFit
-returns-4 c = rw (c .before .before .surface4 .given .1, ← c .one-fits2 .ensures)
+returns-4 c = rw (c .before .before .surface4 .given .1) (c .one-fits2 .ensures)
 
 returns-5 : tie.Need-returns-5
 unfolding numbersFit
-returns-5 c = rw (c .before .before .surface5 .given .1, ← c .both-fit2 .ensures)
+returns-5 c = rw (c .before .before .surface5 .given .1) (c .both-fit2 .ensures)
 
 pub numbers-fit-spec : {M : Type 1} → statement M
 numbers-fit-spec = tie.close (tie.spec enum-known-surface frame-fit-requires enum-known-surface-2 one-fits-requires enum-known-surface-3 both-fit-requires enum-known-surface-4 one-fits-requires-2 enum-known-surface-5 both-fit-requires-2 returns returns-2 returns-3 returns-4 returns-5)

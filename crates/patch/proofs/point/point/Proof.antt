@@ -1,6 +1,9 @@
 -- `patch::point::point` meets its contract: each way out has its tests, and what it calls its own. Assumes nothing.
+use mathlib.Core.Path.{refl, sym, ap, _∙_}
 use borrow.Author.Tests.{not-false, not-true}
 use borrow.Author.Needs.{needs}
+use Rattle.loops.proofs.Choice.{pick-taken, pick-left}
+use Rattle.patch.specs.declared.point.Located.the-variants.{At}
 use Rattle.patch.specs.Located.{locatedOf}
 use Rattle.patch.proofs.point.point.Statement.{statement}
 use Rattle.patch.proofs.point.point.Tie as tie
@@ -19,14 +22,21 @@ is-finite-requires c κs = search needs
 
 returns : tie.Need-returns
 unfolding locatedOf
-returns c = rw (← c .before .before .before .before .fitness .ensures, c .before .before .enum-told .given .1, ← c .before .is-finite .ensures, not-true (c .before .is-finite .result) (c .if1 .taken))
+returns c =
+    rw (← c .before .before .before .before .fitness .ensures, c .before .before .enum-told .given .1)
+    (pick-left _ (sym (c .before .is-finite .ensures) ∙ not-true _ (c .if1 .taken)) refl)
 
 is-finite-requires-2 : tie.Need-is-finite-requires-2
 is-finite-requires-2 c κs = search needs
 
 returns-2 : tie.Need-returns-2
 unfolding locatedOf
-returns-2 c = rw (← c .before .before .before .before .before .before .fitness .ensures, c .before .before .before .before .enum-told .given .1, ← c .before .before .before .is-finite .ensures, not-false (c .before .before .before .is-finite .result) (c .before .before .if1 .left), ← c .before .is-finite2 .ensures, not-true (c .before .is-finite2 .result) (c .if2 .taken))
+returns-2 c =
+    let f2 = c .before in
+    let f1 = f2 .before .before in
+    rw (← f1 .before .before .before .fitness .ensures, f1 .before .enum-told .given .1)
+    (pick-taken _ (sym (f1 .is-finite .ensures) ∙ not-false _ (f2 .before .if1 .left))
+    (pick-left _ (sym (f2 .is-finite2 .ensures) ∙ not-true _ (c .if2 .taken)) refl))
 
 eval-point-requires : tie.Need-eval-point-requires
 eval-point-requires c κs = search needs
@@ -37,7 +47,12 @@ returns-3 c = rw (← c .before .before .before .fitness .ensures, c .before .fi
 
 returns-4 : tie.Need-returns-4
 unfolding locatedOf
-returns-4 c = rw (← c .before .before .before .before .before .before .before .fitness .ensures, c .before .before .before .before .before .enum-told .given .1, ← c .before .before .before .before .is-finite .ensures, not-false (c .before .before .before .before .is-finite .result) (c .before .before .before .if1 .left), ← c .before .before .is-finite2 .ensures, not-false (c .before .before .is-finite2 .result) (c .before .if2 .left), ← c .eval-point .ensures)
+returns-4 c =
+    let f2 = c .before .before in
+    let f1 = f2 .before .before in
+    rw (← f1 .before .before .before .fitness .ensures, f1 .before .enum-told .given .1)
+    (pick-taken _ (sym (f1 .is-finite .ensures) ∙ not-false _ (f2 .before .if1 .left))
+    (pick-taken _ (sym (f2 .is-finite2 .ensures) ∙ not-false _ (c .before .if2 .left)) (ap At (c .eval-point .ensures))))
 
 pub point-spec : {M : Type 1} → statement M
 point-spec = tie.close (tie.spec fitness-requires enum-known-fitness enum-told is-finite-requires returns is-finite-requires-2 returns-2 eval-point-requires returns-3 returns-4)

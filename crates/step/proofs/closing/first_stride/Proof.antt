@@ -12,7 +12,7 @@ min-requires c κs = search needs
 
 returns : tie.Need-returns
 unfolding firstStride
-returns c = rw (c .min .ensures, c .before .sqrt .ensures)
+returns c = rw (c .min .ensures, c .before .sqrt .ensures .answer)
 
 pub first-stride-spec : {M : Type 1} → statement M
 first-stride-spec = tie.close (tie.spec sqrt-requires min-requires returns)

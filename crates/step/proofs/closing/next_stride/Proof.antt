@@ -56,7 +56,7 @@ min-requires-2 c κs = search needs
 
 returns : tie.Need-returns
 unfolding nextStride
-returns c = rw (c .min2 .ensures, c .before .sqrt .ensures, c .before .before .before .before .min .ensures, c .before .before .before .before .before .max .ensures)
+returns c = rw (c .min2 .ensures, c .before .sqrt .ensures .answer, c .before .before .before .before .min .ensures, c .before .before .before .before .before .max .ensures)
 
 returns-2 : tie.Need-returns-2
 unfolding nextStride

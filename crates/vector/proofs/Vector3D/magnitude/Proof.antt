@@ -12,7 +12,7 @@ sqrt-requires c κs = search needs
 
 returns : tie.Need-returns
 unfolding magnitudeOf
-returns c = rw (c .sqrt .ensures, c .before .square-magnitude .ensures)
+returns c = rw (c .sqrt .ensures .answer, c .before .square-magnitude .ensures)
 
 pub magnitude-spec : {M : Type 1} → statement M
 magnitude-spec = tie.close (tie.spec square-magnitude-requires sqrt-requires returns)

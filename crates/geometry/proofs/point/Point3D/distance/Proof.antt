@@ -9,7 +9,7 @@ sqrt-requires c κs = search needs
 
 returns : tie.Need-returns
 unfolding distanceOf
-returns c = rw (c .sqrt .ensures)
+returns c = rw (c .sqrt .ensures .answer)
 
 pub distance-spec : {M : Type 1} → statement M
 distance-spec = tie.close (tie.spec sqrt-requires returns)

@@ -1,0 +1,65 @@
+-- The promises of the public calls follow from the equations of what they call. Assumes nothing.
+use mathlib.Core.Path.{_≡_, refl, ap, sym, _∙_}
+use mathlib.Core.Bool.{true}
+use mathlib.Core.List.{List}
+use Prim.Native.Nat.{ℕ}
+use native.Mathlib.Omega.{arith}
+use lib.Ieee.{Float}
+use Rattle.refusal.proofs.Laws.{number-positive}
+use Rattle.tolerance.specs.declared.Tolerance.{Tolerance}
+use Rattle.patch.specs.declared.patch.Patch.{Patch}
+use Rattle.patch.specs.declared.patch.Parameters.{Parameters}
+use Rattle.certificate.specs.declared.check.Checked.{Checked}
+use Rattle.certificate.specs.declared.check.Checked.the-variants.{Passed, Refused}
+use Rattle.certificate.specs.Passes.{Passes}
+use Rattle.certificate.specs.Check.{refusalOf, checkOf}
+use Rattle.certificate.proofs.Bits.{Binary64}
+use Rattle.certificate.proofs.Passed.{checked-passes, passes-checked}
+use Rattle.walk.specs.declared.answer.Traced.{Traced}
+use Rattle.walk.specs.Trace.{countOf, startOf, closingOf, traceOf}
+use Rattle.walk.specs.Trace as trace
+use Rattle.boxes.specs.declared.boxtree.Aabb.{Aabb}
+use Rattle.boxes.specs.declared.crossing.Crossed.{Crossed}
+use Rattle.boxes.specs.Crossing.{crossedOf, crossingOf}
+use Rattle.boxes.proofs.Counted.{crossed-when}
+use Rattle.passing.specs.Promises.{TracePromise, CheckPromise, CrossingPromise}
+use Rattle.passing.proofs.Exact.{passes-exact}
+use Rattle.passing.proofs.Passing.{traced-passes}
+
+-- no refusal has the number 0
+pub not-refused : (r : Checked) → refusalOf r ≡ 0 → r ≡ Passed
+not-refused Passed e = refl
+not-refused (Refused q) e = let h = number-positive q in absurd (omega (arith, h, e))
+
+pub trace-promised : (a b : Patch) (tol : Tolerance) (guess : Parameters) (cap : ℕ) (before : List Float) {after : List Float} {r : Traced}
+    → r ≡ traceOf a b tol guess cap before .answer → after ≡ traceOf a b tol guess cap before .buffer → TracePromise a b tol guess cap before after r
+trace-promised a b tol guess cap before {after} {r} answer buffer =
+    record {
+      answer = answer;
+      buffer = buffer;
+      passes = passes;
+      checked = λ z. ap refusalOf (passes-checked a b tol after (countOf r) (startOf r) (closingOf r) (passes z));
+      exact = λ z. passes-exact a b tol after (countOf r) (startOf r) (closingOf r) (passes z);
+    }
+  where
+    passes : trace.refusalOf r ≡ 0 → Passes a b tol after (countOf r) (startOf r) (closingOf r)
+    passes z = traced-passes a b tol guess cap before answer buffer z
+
+module _ (a b : Patch) (tol : Tolerance) (l : List Float) (count start closing : ℕ) where
+  pub check-promised : Binary64 l → {r : Checked} → r ≡ checkOf a b tol l count start closing → CheckPromise a b tol l count start closing r
+  check-promised d {r} e = record { answer = e; passes = passes; complete = complete; exact = λ z. passes-exact a b tol l count start closing (passes z) }
+    where
+      passes : refusalOf r ≡ 0 → Passes a b tol l count start closing
+      passes z = checked-passes a b tol l count start closing d (sym e ∙ not-refused r z)
+
+      complete : Passes a b tol l count start closing → refusalOf r ≡ 0
+      complete p = ap refusalOf (e ∙ passes-checked a b tol l count start closing p)
+
+pub crossing-promised : (tol : Tolerance) (l : List Float) (count : ℕ) (box : Aabb) {r : Crossed} → r ≡ crossingOf tol l count box → CrossingPromise tol l count box r
+crossing-promised tol l count box e =
+    let w = crossed-when tol l count box in
+    record {
+      answer = e;
+      counts = λ y. w .0 (sym (ap crossedOf e) ∙ y);
+      complete = λ f i c. ap crossedOf e ∙ w .1 (f, (i, c));
+    }

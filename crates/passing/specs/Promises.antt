@@ -1,0 +1,80 @@
+-- What the public calls promise, on one page. A contract is one of the records at the end: equations settle the answer and every lent output from the
+-- inputs alone, refused calls too; the promises stand beside them by name. The number of an answer is 0 where nothing is refused. Definitions only.
+use mathlib.Core.Path.{_≡_}
+use mathlib.Core.Bool.{true}
+use mathlib.Core.List.{List}
+use Prim.Native.Nat.{ℕ, _<_}
+use lib.Ieee.{Float}
+use Rattle.tolerance.specs.declared.Tolerance.{Tolerance}
+use Rattle.gap.specs.Gap.{PointFinite, ExactlyWithin}
+use Rattle.patch.specs.declared.patch.Patch.{Patch}
+use Rattle.patch.specs.declared.patch.Parameters.{Parameters}
+use Rattle.patch.specs.declared.point.Located.{Located}
+use Rattle.patch.specs.Located.{pointA, pointB, locatedOf}
+use Rattle.certificate.specs.declared.check.Checked.{Checked}
+use Rattle.certificate.specs.Passes.{parametersAt, Passes}
+use Rattle.certificate.specs.Check.{checkOf}
+use Rattle.certificate.specs.Check as check
+use Rattle.walk.specs.declared.answer.Traced.{Traced}
+use Rattle.walk.specs.Trace.{countOf, startOf, closingOf, traceOf}
+use Rattle.walk.specs.Trace as trace
+use Rattle.boxes.specs.declared.boxtree.Aabb.{Aabb}
+use Rattle.boxes.specs.declared.crossing.Crossed.{Crossed}
+use Rattle.boxes.specs.Counts.{Counts, Fit}
+use Rattle.boxes.specs.Crosses.{grownOf}
+use Rattle.boxes.specs.Crossing.{crossedOf, crossingOf}
+use Rattle.job.specs.declared.file.Job.{Job}
+use Rattle.job.specs.declared.file.JobRead.the-variants.{Whole}
+use Rattle.job.specs.File.{jobOf}
+
+-- ---- the promises
+
+-- Point i of a trace: A's point and B's, worked out afresh at its parameters, are finite, so that all six coordinates are whole multiples of 2^-1074,
+-- and "the exact squared gap is at most confusion squared times (1 + 2^-50)".
+pub record ExactGap (a b : Patch) (tol : Tolerance) (l : List Float) (i : ℕ) : Type 0 where
+  pub finite-a : PointFinite (pointA a (parametersAt l i))
+  pub finite-b : PointFinite (pointB b (parametersAt l i))
+  pub within : ExactlyWithin (pointA a (parametersAt l i)) (pointB b (parametersAt l i)) (tol .confusion)
+
+-- "at every point"
+abbrev pub ExactGaps : Patch → Patch → Tolerance → List Float → ℕ → Type 0
+ExactGaps a b tol l count = (i : ℕ) → i < count → ExactGap a b tol l i
+
+-- The bytes are a job file, and under its surfaces and tolerance the trace passes, with exact gaps.
+pub record JobPasses (bytes : List ℕ) (l : List Float) (count start closing : ℕ) : Type 0 where
+  pub job : Job
+  pub read : jobOf bytes ≡ Whole job
+  pub passes : Passes (job .a) (job .b) (job .tol) l count start closing
+  pub exact : ExactGaps (job .a) (job .b) (job .tol) l count
+
+-- ---- the contracts of the public four
+
+-- the point of a surface, or the refusal, is what 01's rules give
+pub record PointPromise (patch : Patch) (u v : Float) (r : Located) : Type 0 where
+  pub answer : r ≡ locatedOf patch u v
+
+-- the line where two surfaces meet; `before` and `after` are the lent buffer
+pub record TracePromise (a b : Patch) (tol : Tolerance) (guess : Parameters) (cap : ℕ) (before after : List Float) (r : Traced) : Type 0 where
+  -- "The tracer's answer and buffer are what 01's rules give"
+  pub answer : r ≡ traceOf a b tol guess cap before .answer
+  pub buffer : after ≡ traceOf a b tol guess cap before .buffer
+  -- "every trace it returns passes the check": the conditions hold, the check says so, and the exact gaps are small
+  pub passes : trace.refusalOf r ≡ 0 → Passes a b tol after (countOf r) (startOf r) (closingOf r)
+  pub checked : trace.refusalOf r ≡ 0 → check.refusalOf (checkOf a b tol after (countOf r) (startOf r) (closingOf r)) ≡ 0
+  pub exact : trace.refusalOf r ≡ 0 → ExactGaps a b tol after (countOf r)
+
+-- the check of the first `count` points of a list
+pub record CheckPromise (a b : Patch) (tol : Tolerance) (l : List Float) (count start closing : ℕ) (r : Checked) : Type 0 where
+  pub answer : r ≡ checkOf a b tol l count start closing
+  -- "A check passes a trace exactly when 01's conditions hold": it passes no other trace, and it passes every such trace
+  pub passes : check.refusalOf r ≡ 0 → Passes a b tol l count start closing
+  pub complete : Passes a b tol l count start closing → check.refusalOf r ≡ 0
+  -- "At every point of a passing trace the exact squared gap is at most confusion² (1 + 2^-50)"
+  pub exact : check.refusalOf r ≡ 0 → ExactGaps a b tol l count
+
+-- whether the first `count` points of a list cross a box
+pub record CrossingPromise (tol : Tolerance) (l : List Float) (count : ℕ) (box : Aabb) (r : Crossed) : Type 0 where
+  pub answer : r ≡ crossingOf tol l count box
+  -- yes exactly when nothing refuses and some segment counts
+  pub counts : crossedOf r ≡ true → Fit tol l count box × ((i : ℕ) × Counts l count (grownOf box (tol .confusion)) i)
+  pub complete : Fit tol l count box → (i : ℕ) → Counts l count (grownOf box (tol .confusion)) i → crossedOf r ≡ true
