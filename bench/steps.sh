@@ -5,6 +5,7 @@ cd "$(dirname "$0")/.."
 for archive in probe probe_surface probe_marching capi; do
     rt staticlib $archive > target/staticlib.log 2>&1 || { tail -n 20 target/staticlib.log; exit 1; }
 done
+tools/made.sh
 for part in solve surface marching; do
     cargo run --quiet --release --offline --manifest-path oracle/Cargo.toml --bin speed -- $part "${1:-200}"
 done

@@ -4,6 +4,7 @@
 set -eu
 cd "$(dirname "$0")/.."
 tools/build_oracle.sh
+tools/made.sh
 grep -m1 'model name' /proc/cpuinfo | sed 's/.*: //'
 rustc --version
 exec oracle/target/release/speed "${1:-50}"

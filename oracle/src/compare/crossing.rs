@@ -525,7 +525,15 @@ pub fn compare(seed: u64, count: u64) -> u64 {
             }
         }
     }
-    println!("crossing: {count} compared, {wrong} differ");
+    let of = |part: fn(&Answers) -> u64| answers.iter().map(part).sum::<u64>();
+    println!(
+        "crossing: {count} compared, {wrong} differ ({} crossed, {} clear, {} refused; kept out by the whole box alone {}, by a run's box alone {})",
+        of(|a| a.crossed),
+        of(|a| a.clear),
+        of(|a| a.refused.iter().sum()),
+        of(|a| a.by_whole),
+        of(|a| a.by_run)
+    );
     for (k, kind) in KINDS.iter().enumerate() {
         let a = answers[k];
         let of = |n: usize| a.refused[n];

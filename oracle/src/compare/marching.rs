@@ -648,8 +648,15 @@ pub fn compare(seed: u64, count: u64) -> u64 {
         }
         let (all, least) = (yes.iter().sum::<u64>(), pairs.iter().min().unwrap_or(&0));
         let turned: u64 = changed.iter().sum();
+        let tested = if step >= 3 {
+            format!(
+                "; the window test changes {turned}, {changed_inside} of them with no pin or with one inside its window"
+            )
+        } else {
+            String::new()
+        };
         println!(
-            "{name}: {count} compared, {wrong} differ ({all} with an answer, of a pair of kinds at least {least}; the window test changes {turned}, {changed_inside} of them with no pin or with one inside its window)"
+            "{name}: {count} compared, {wrong} differ ({all} with an answer, of a pair of kinds at least {least}{tested})"
         );
         for (k, kind) in KINDS.iter().enumerate() {
             println!(

@@ -192,7 +192,10 @@ pub fn compare(seed: u64, count: u64) -> u64 {
         }
     }
     let short = unusable();
-    println!("patches: {count} compared, {differ} differ; unusable: {short} differ");
+    let points: u64 = answers.iter().map(|a| a[0]).sum();
+    println!(
+        "patches: {count} compared, {differ} differ ({points} points, the others refused); unusable: {short} differ"
+    );
     println!("points of the C interface: {count} compared, {in_c} differ");
     for (kind, a) in answers.iter().enumerate() {
         println!(

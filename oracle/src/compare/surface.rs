@@ -209,8 +209,17 @@ pub fn compare(seed: u64, count: u64) -> u64 {
         }
     }
     let short = unusable();
-    println!("points: {count} compared, {} differ", differ[0]);
-    println!("derivatives: {count} pairs compared, {} differ", differ[1]);
+    let whole = |k: usize| finite.iter().map(|f| f[k]).sum::<u64>();
+    println!(
+        "points: {count} compared, {} differ ({} finite)",
+        differ[0],
+        whole(0)
+    );
+    println!(
+        "derivatives: {count} pairs compared, {} differ ({} finite)",
+        differ[1],
+        whole(1)
+    );
     println!("unusable: {short} differ");
     for (k, kind) in KINDS.iter().enumerate() {
         let [p, d] = finite[k];

@@ -64,16 +64,14 @@ impl Found {
         let least = self.pairs.iter().min().unwrap_or(&0);
         let points: u64 = self.kinds.iter().map(|e| e.points).sum();
         let of = |code: usize| self.kinds.iter().map(|e| e.lines[code]).sum::<u64>();
-        println!("traces: {count} jobs compared, {} differ", self.differ);
         println!(
-            "  {lines} lines of {points} points ({} open, {} closed forward, {} closed backward; of a pair of kinds at least {least})",
+            "traces: {count} jobs compared, {} differ ({lines} lines of {points} points: {} open, {} closed forward, {} closed backward, of a pair of kinds at least {least}; the chord test changes {}; the check refuses {} of the lines)",
+            self.differ,
             of(0),
             of(1),
-            of(2)
-        );
-        println!(
-            "  the chord test changes {}; the check refuses {} of the lines",
-            self.changed, self.failing
+            of(2),
+            self.changed,
+            self.failing
         );
         for (name, ends) in KINDS.iter().zip(&self.kinds) {
             ends.print(name);
