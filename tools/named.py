@@ -1,5 +1,5 @@
 #!/usr/bin/env python3
-"""Looks up what the documents name, in the tree. Ends non-zero where something named is not there or a count is another.
+"""Looks up what the documents name, in the tree. Ends non-zero where something named is not there.
 
   paths            every path of the tree, in or out of backquotes: from the root, from crates/, from a crate or from oracle/src
   names            every word of a name in backquotes is a word of the code, the definitions, the proofs or the tools
@@ -7,7 +7,6 @@
   `name` of PATH   the name stands in that file, and likewise PATH: `name`
   crate: x, y      in docs/RULES.md's last column: each is a wrong answer of crates/CRATE/must-fail; what stands there in
                    quotation marks is a slip of oracle/slips.txt
-  File 33          in README.md's table of definitions: crates/CRATE/specs/File.antt has so many lines, and no file is left out
 
 It cannot tell whether what is said of a name is true.
 """
@@ -19,8 +18,8 @@ import sys
 DOCUMENTS = ['README.md', 'NOTICE', *sorted(glob.glob('docs/*.md')), *sorted(glob.glob('docs/parts/*.md'))]
 PATH = re.compile(r'(?<![\w/.-])((?:[\w.-]+/)+[\w.-]*\w)')
 WORD = re.compile(r"[A-Za-z_][\w'′]*(?:-[\w→]+)*\??")
-# Words of the Rust, of fdlibm's C, of a usage line or of a foreign command that need not be in the tree.
-FOREIGN = set('marching_intersection __kernel_rem_pio2 aabb march valgrind tool callgrind'.split())
+# Words of the Rust, of fdlibm's C, of a usage line, of a foreign command or of a verdict that need not be in the tree.
+FOREIGN = set('marching_intersection __kernel_rem_pio2 aabb march valgrind tool callgrind axioms libraries-built'.split())
 
 
 def tree_words():
@@ -102,21 +101,6 @@ def missing_answers(text):
                 yield f'"{slip}"'
 
 
-def miscounted(text):
-    """Rows of README's table of definitions whose files or lines are others, and its sum."""
-    total = 0
-    for crate, counts in re.findall(r'^\| `(\w+)` \|[^|]*\| ((?:\w+ \d+(?:, )?)+) \|$', text, re.M):
-        lines = {os.path.basename(path)[:-5]: len(open(path, encoding='utf-8').readlines()) for path in glob.glob(f'crates/{crate}/specs/*.antt')}
-        lines.pop('Lib', None)
-        now = ', '.join(f'{name} {lines[name]}' for name in sorted(lines))
-        total += sum(lines.values())
-        if counts != now:
-            yield f'{crate}: {counts}, now {now}'
-    said = re.search(r'(\d+) files and ([\d,]+) lines', text)
-    if said and said.group(2) != f'{total:,}':
-        yield f'{said.group(0)}, now {total:,} lines'
-
-
 def main():
     os.chdir(os.path.dirname(os.path.dirname(os.path.abspath(__file__))))
     words, bad = tree_words(), 0
@@ -126,12 +110,10 @@ def main():
         gone = [*missing_paths(text), *missing_names(text, words), *missing_places(text), *missing_there(text)]
         if path == 'docs/RULES.md':
             gone += missing_answers(text)
-        if path == 'README.md':
-            gone += miscounted(text)
         for what in dict.fromkeys(gone):
             print(f'{path}: {what}')
         bad += len(set(gone))
-    print(f'{bad} names or counts are not those of the tree')
+    print(f'{bad} names are not those of the tree')
     return bad > 0
 
 
