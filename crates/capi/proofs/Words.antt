@@ -129,9 +129,9 @@ module _ (bytes : List ℕ) (l : List Float) (count start code : ℕ) where
       record {
         answer = rw (e, ← p .answer) f;
         passes = λ z. let n = word-passed s (sym f ∙ z) in record { job = j; read = e; passes = p .passes n; exact = p .exact n };
-        complete = λ q.
-            let same : q .job ≡ j = ap (jobIn j) (sym (q .read)) ∙ ap (jobIn j) e in
-            f ∙ passed-word s (p .complete (subst (λ (k : Job). Passes (k .a) (k .b) (k .tol) l count start code) same (q .passes)));
+        complete = λ k r q.
+            let same : k ≡ j = ap (jobIn j) (sym r) ∙ ap (jobIn j) e in
+            f ∙ passed-word s (p .complete (subst (λ (i : Job). Passes (i .a) (i .b) (i .tol) l count start code) same q));
       }
 
   pub checked-unread : {r : Refusal} {w : ℕ} → jobOf bytes ≡ Refused r → w ≡ numberOf r → CheckWord bytes l count start code w
@@ -140,5 +140,5 @@ module _ (bytes : List ℕ) (l : List Float) (count start code : ℕ) where
       record {
         answer = rw e f;
         passes = λ z. let h = number-positive r in absurd (omega (arith, h, sym f ∙ z));
-        complete = λ q. let same : Whole (q .job) ≡ Refused r = sym (q .read) ∙ e in let z : _≡_ {A = ℕ} 0 1 = cc in absurd (omega arith);
+        complete = λ k q p. let same : Whole k ≡ Refused r = sym q ∙ e in let z : _≡_ {A = ℕ} 0 1 = cc in absurd (omega arith);
       }

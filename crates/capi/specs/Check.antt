@@ -5,7 +5,9 @@ use Prim.Native.Nat.{ℕ, _+_, _*_, _^_}
 use lib.Ieee.{Float}
 use Rattle.refusal.specs.Refusal.{numberOf}
 use Rattle.certificate.specs.declared.check.Checked.{Checked}
+use Rattle.certificate.specs.Passes.{Passes}
 use Rattle.certificate.specs.Check.{refusalOf, indexOf, checkOf}
+use Rattle.job.specs.declared.file.Job.{Job}
 use Rattle.job.specs.declared.file.JobRead.{JobRead}
 use Rattle.job.specs.declared.file.JobRead.the-variants.{Whole, Refused}
 use Rattle.job.specs.File.{jobOf}
@@ -29,4 +31,4 @@ pub record CheckWord (bytes : List ℕ) (l : List Float) (count start code w : �
   pub answer : w ≡ checkAnswer bytes l count start code
   -- the word is 0 exactly when the bytes are a job and the trace passes under it; its exact gaps are small then
   pub passes : w ≡ 0 → JobPasses bytes l count start code
-  pub complete : JobPasses bytes l count start code → w ≡ 0
+  pub complete : (j : Job) → jobOf bytes ≡ Whole j → Passes (j .a) (j .b) (j .tol) l count start code → w ≡ 0
