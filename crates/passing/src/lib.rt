@@ -1,2 +1,2 @@
-//! Statements 3 and 4: at every point of a line that passes the exact gap is small, and every line that the walk answers passes. Laws over
-//! the definitions of `walk` and `certificate`; no code.
+//! What the public calls promise, on one page (specs/Promises.antt), and the laws behind it: every line that the walk answers passes, at every
+//! point of a line that passes the exact gap is small, and so the contracts follow from the equations of what the calls call. No code.
