@@ -52,7 +52,7 @@ static inline void geomcore_mode_restore(unsigned before) {
         _mm_setcsr(before);
 }
 
-double geomcore_sqrt(double x);
+double geomcore_sqrt(double x); /* IEEE 754's: proved */
 double geomcore_sin(double x); /* of an angle in radians; a NaN beyond reach: docs/RULES.md */
 double geomcore_cos(double x);
 double geomcore_atan2(double y, double x); /* the angle of the point (x, y), in radians */
@@ -65,16 +65,19 @@ uint64_t geomcore_point(const uint8_t *surface, size_t bytes, double u, double v
 /* Walks the line where the two surfaces of a job file meet, over the lent numbers, at least 7 (2 cap + 1) of them: the refusal's number
  * + 2^8 times the closing code (0 open, 1 closed forward, 2 closed backward) + 2^16 times the start's index + 2^32 times the count of
  * points. Seven numbers a point stand first (x, y, z, u, v on A, u, v on B), then zeros up to 7 (2 cap + 1);
- * refusals 9 to 11 leave nothing but zeros there, the others write nothing. */
+ * refusals 9 to 11 leave nothing but zeros there, the others write nothing.
+ * Proved: where the low byte is 0 the line in the buffer passes the check under the job, with that count, start and code. */
 uint64_t geomcore_trace(const uint8_t *job, size_t bytes, double *buffer, size_t lent);
 
 /* Whether a trace of count points, seven numbers each (x, y, z, u, v on A, u, v on B), with its start's index and closing code, passes the
  * check against the surfaces and tolerance of a job file (its guess and cap aren't read): 0, or the refusal's number + 2^32 times the
- * index of the point that 13 to 16 name. */
+ * index of the point that 13 to 16 name.
+ * Proved: it is 0 exactly when the bytes are a job and the trace passes, and then at every point the exact squared gap between the two
+ * surfaces' computed points is at most the confusion squared times (1 + 2^-50). */
 uint64_t geomcore_check(const uint8_t *job, size_t bytes, const double *buffer, size_t lent, uint64_t count,
                         uint64_t start, uint64_t code);
 
-/* Whether a trace of count points crosses a box: the refusal's number + 256 if it does. corners: low x, y, z, then high; fewer than six
+/* Whether a trace of count points crosses a box grown by 8000 times the confusion: the refusal's number + 2^8 if it does. corners: low x, y, z, then high; fewer than six
  * numbers given are refused by 8, before all else. */
 uint64_t geomcore_crossing(double confusion, double angular, const double *buffer, size_t lent, uint64_t count,
                            const double *corners, size_t given);

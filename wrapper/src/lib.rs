@@ -144,7 +144,7 @@ pub const fn room(cap: u16) -> usize {
     7 * (2 * cap as usize + 1)
 }
 
-/// Walks the line that a job file asks for over the lent numbers.
+/// Walks the line that a job file asks for over the lent numbers. Proved: a line that it gives passes `check` under the same job.
 pub fn trace(job: &[u8], buffer: &mut [f64]) -> Result<Line, Refusal> {
     // SAFETY: each pointer comes with the length of what it was taken from; the callee keeps neither and writes `buffer` alone.
     let word = guarded(|| unsafe {
@@ -166,7 +166,8 @@ pub fn trace(job: &[u8], buffer: &mut [f64]) -> Result<Line, Refusal> {
     })
 }
 
-/// Whether a line passes the check against the surfaces and tolerance of a job file; its guess and cap aren't read.
+/// Whether a line passes the check against the surfaces and tolerance of a job file; its guess and cap aren't read. Proved: it passes exactly
+/// when document 01's conditions hold, and then at every point the exact squared gap is at most the confusion squared times (1 + 2^-50).
 pub fn check(job: &[u8], buffer: &[f64], line: Line) -> Result<(), Refusal> {
     // SAFETY: each pointer comes with the length of what it was taken from; the callee keeps neither and writes nothing.
     let word = guarded(|| unsafe {
