@@ -77,8 +77,8 @@ uint64_t geomcore_trace(const uint8_t *job, size_t bytes, double *buffer, size_t
 uint64_t geomcore_check(const uint8_t *job, size_t bytes, const double *buffer, size_t lent, uint64_t count,
                         uint64_t start, uint64_t code);
 
-/* Whether a trace of count points crosses a box grown by 8000 times the confusion: the refusal's number + 2^8 if it does. corners: low x, y, z, then high; fewer than six
- * numbers given are refused by 8, before all else. */
+/* Whether a trace of count points crosses a box grown by 8000 times the confusion: the refusal's number + 2^8 if it does. corners: low
+ * x, y, z, then high; fewer than six numbers given are refused by 8, before all else. */
 uint64_t geomcore_crossing(double confusion, double angular, const double *buffer, size_t lent, uint64_t count,
                            const double *corners, size_t given);
 

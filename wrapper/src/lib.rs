@@ -166,8 +166,9 @@ pub fn trace(job: &[u8], buffer: &mut [f64]) -> Result<Line, Refusal> {
     })
 }
 
-/// Whether a line passes the check against the surfaces and tolerance of a job file; its guess and cap aren't read. Proved: it passes exactly
-/// when document 01's conditions hold, and then at every point the exact squared gap is at most the confusion squared times (1 + 2^-50).
+/// Whether a line passes the check against the surfaces and tolerance of a job file; its guess and cap aren't read. Proved: it passes
+/// exactly when document 01's conditions hold, and then at every point the exact squared gap is at most the confusion squared times
+/// (1 + 2^-50).
 pub fn check(job: &[u8], buffer: &[f64], line: Line) -> Result<(), Refusal> {
     // SAFETY: each pointer comes with the length of what it was taken from; the callee keeps neither and writes nothing.
     let word = guarded(|| unsafe {
