@@ -1,7 +1,7 @@
 -- The words hold their parts apart, and 0 means that nothing is refused. Assumes nothing.
 use mathlib.Core.Path.{_≡_, refl, sym, ap, _∙_, subst}
 use mathlib.Core.List.{List}
-use Prim.Native.Nat.{ℕ, _+_, _*_, _/_, _%_, _^_, _≤_}
+use Prim.Native.Nat.{ℕ, _+_, _*_, _/_, _%_, _^_, _≤_, _<_}
 use native.Mathlib.Omega.{arith}
 use lib.Ieee.{Float}
 use Rattle.refusal.specs.declared.Refusal.{Refusal}
@@ -30,6 +30,9 @@ use Rattle.capi.specs.Trace.{tracedWord, Bounded, traceAnswer, TraceWord
 unlike-zero : (r : Refusal) → numberOf r % 256 ≡ 0 → ⊥
 unlike-zero r e = let a = number-positive r in let b = number-small r in omega (arith, a, b, e)
 
+pub number-fits : (r : Refusal) → numberOf r < 256
+number-fits r = let h = number-small r in omega (arith, h)
+
 -- ---- the trace's word
 
 code-small : {l : List Float} {count start closing : ℕ} → ClosedAs l count start closing → closing ≤ 2
@@ -45,20 +48,21 @@ module _ {a b : Patch} {tol : Tolerance} {guess : Parameters} {cap : ℕ} {befor
       let h = p .passes refl in
       let m = h .most in
       let s = h .among in
-      record { count = m; start = omega (arith, m, s); closing = code-small (h .closed) }
+      let k = code-small (h .closed) in
+      record { count = omega (arith, m); start = omega (arith, m, s); closing = omega (arith, k) }
 
 -- so a line has
-pub line-fits : {t : Traced} {count start closing : ℕ} → t ≡ traced.Line count start closing → Bounded t → (count ≤ 4001) × ((start ≤ 4001) × (closing ≤ 2))
+pub line-fits : {t : Traced} {count start closing : ℕ} → t ≡ traced.Line count start closing → Bounded t → (count < 4294967296) × ((start < 65536) × (closing < 256))
 line-fits e h = let b = subst Bounded e h in (b .count, (b .start, b .closing))
 
 -- the parts of a line's word
-module _ (code start count : ℕ) (h : code ≤ 2) where
+module _ (code start count : ℕ) (h : code < 256) where
   code-part : (0 + code * 2 ^ 8 + start * 2 ^ 16 + count * 2 ^ 32) / 2 ^ 8 % 2 ^ 8 ≡ code
   code-part =
       let e : (0 + code * 256 + start * 65536 + count * 4294967296) / 256 ≡ code + (start + count * 65536) * 256 = omega (arith, h) in
       rw e (omega (arith, h))
 
-  module _ (k : start ≤ 4001) where
+  module _ (k : start < 65536) where
     start-part : (0 + code * 2 ^ 8 + start * 2 ^ 16 + count * 2 ^ 32) / 2 ^ 16 % 2 ^ 16 ≡ start
     start-part =
         let e : (0 + code * 256 + start * 65536 + count * 4294967296) / 65536 ≡ start + count * 65536 = omega (arith, h, k) in
@@ -101,12 +105,12 @@ traced-unread t {r = r} e f =
 -- ---- the check's word
 
 -- what `check` answers has room in a word
-pub index-told : {a b : Patch} {tol : Tolerance} {l : List Float} (count start code : ℕ) {s : Checked} → CheckPromise a b tol l count start code s → check.indexOf s ≤ 4001
-index-told {a} {b} {tol} {l} count start code p = rw (p .answer) (check-index a b tol l count start code)
+pub index-told : {a b : Patch} {tol : Tolerance} {l : List Float} (count start code : ℕ) {s : Checked} → CheckPromise a b tol l count start code s → check.indexOf s < 4294967296
+index-told {a} {b} {tol} {l} count start code p = let h = check-index a b tol l count start code in rw (p .answer) (omega (arith, h))
 
 -- so a refusal has
-pub refusal-fits : {s : Checked} {r : Refusal} → s ≡ checked.Refused r → check.indexOf s ≤ 4001 → indexOf r ≤ 4001
-refusal-fits e h = subst (λ (t : Checked). check.indexOf t ≤ 4001) e h
+pub refusal-fits : {s : Checked} {r : Refusal} → s ≡ checked.Refused r → check.indexOf s < 4294967296 → indexOf r < 4294967296
+refusal-fits e h = subst (λ (t : Checked). check.indexOf t < 4294967296) e h
 
 word-passed : (s : Checked) → checkedWord s ≡ 0 → check.refusalOf s ≡ 0
 unfolding checkedWord

@@ -1,7 +1,7 @@
 -- The trace's word and the lent numbers after it. Definitions only.
 use mathlib.Core.Path.{_≡_}
 use mathlib.Core.List.{List}
-use Prim.Native.Nat.{ℕ, _+_, _*_, _^_, _≤_}
+use Prim.Native.Nat.{ℕ, _+_, _*_, _^_, _<_}
 use lib.Ieee.{Float}
 use Rattle.refusal.specs.Refusal.{numberOf}
 use Rattle.walk.specs.declared.answer.Traced.{Traced}
@@ -18,9 +18,9 @@ tracedWord t = refusalOf t + closingOf t * 2 ^ 8 + startOf t * 2 ^ 16 + countOf 
 
 -- each part of an answer has room in its place of the word
 pub record Bounded (t : Traced) : Type 0 where
-  pub count : countOf t ≤ 4001
-  pub start : startOf t ≤ 4001
-  pub closing : closingOf t ≤ 2
+  pub count : countOf t < 2 ^ 32
+  pub start : startOf t < 2 ^ 16
+  pub closing : closingOf t < 2 ^ 8
 
 -- the answer as a word, and the buffer
 abbrev pub outcomeAnswer : Outcome → Answer

@@ -12,7 +12,7 @@ use patch::Patch;
 use tolerance::Tolerance;
 use walk::Traced;
 ghost use mathlib.Core.Path.{_≡_};
-ghost use Prim.Native.Nat.{_+_, _*_, _≤_};
+ghost use Prim.Native.Nat.{_+_, _*_, _≤_, _<_};
 ghost use lib.ListN.{length};
 ghost use Rattle.capi.specs.Answer.{answered};
 ghost use Rattle.certificate.specs.Check.{indexOf};
@@ -98,13 +98,13 @@ pub extern "C" fn geomcore_point(surface: &[u8], u: f64, v: f64, out: &mut [f64]
 
 // The word of a line: 2^8 times the code, 2^16 times the start's index and 2^32 times the count.
 fn line_word(count: usize, start: usize, code: usize) -> u64
-    requires { ⌜ (count ≤ 4001) × ((start ≤ 4001) × (code ≤ 2)) ⌝ }
+    requires { ⌜ (count < 4294967296) × ((start < 65536) × (code < 256)) ⌝ }
     ensures { λ r. ⌜ r ≡ code * 256 + start * 65536 + count * 4294967296 ⌝ }
 {
     (code as u64) * 256 + (start as u64) * 65536 + (count as u64) * 4294967296
 }
 
-// The answer's word: the refusal's number, or the line's word. Each part has its own place in it: a count is at most 4001.
+// The answer's word: the refusal's number, or the line's word. Each part has room in its own place of it.
 fn traced_word(answer: Traced) -> u64
     requires { ⌜ Bounded answer ⌝ }
     ensures { λ r. ⌜ r ≡ tracedWord answer ⌝ }
@@ -137,7 +137,7 @@ pub extern "C" fn geomcore_trace(job: &[u8], buffer: &mut [f64]) -> u64
 
 // The word of a refusal: its number, and 2^32 times the index of the point that it names.
 fn refused_word(number: u64, index: u64) -> u64
-    requires { ⌜ (number ≤ 255) × (index ≤ 4001) ⌝ }
+    requires { ⌜ (number < 256) × (index < 4294967296) ⌝ }
     ensures { λ r. ⌜ r ≡ number + index * 4294967296 ⌝ }
 {
     number + index * 4294967296
@@ -145,7 +145,7 @@ fn refused_word(number: u64, index: u64) -> u64
 
 // The answer's word: 0, or the refusal's word.
 fn checked_word(answer: Checked) -> u64
-    requires { ⌜ indexOf answer ≤ 4001 ⌝ }
+    requires { ⌜ indexOf answer < 4294967296 ⌝ }
     ensures { λ r. ⌜ r ≡ checkedWord answer ⌝ }
 {
     match answer {

@@ -1,7 +1,6 @@
 -- `capi::checked_word` meets its contract: each way out has its tests, and what it calls its own. Assumes nothing.
 use borrow.Author.Needs.{needs}
-use Rattle.refusal.proofs.Laws.{number-small}
-use Rattle.capi.proofs.Words.{refusal-fits}
+use Rattle.capi.proofs.Words.{number-fits, refusal-fits}
 use Rattle.capi.specs.Check.{checkedWord}
 use Rattle.capi.proofs.checked_word.Statement.{statement}
 use Rattle.capi.proofs.checked_word.Tie as tie
@@ -22,7 +21,7 @@ refused-word-requires : tie.Need-refused-word-requires
 refused-word-requires c κs =
     let n = c .before in
     let a = n .before .before in
-    (rw (n .number .ensures) (number-small (a .answer .given .0 .0)), rw (c .index .ensures) (refusal-fits (a .answer .given .1) (a .before .before .pre)))
+    (rw (n .number .ensures) (number-fits (a .answer .given .0 .0)), rw (c .index .ensures) (refusal-fits (a .answer .given .1) (a .before .before .pre)))
 
 returns : tie.Need-returns
 unfolding checkedWord
