@@ -1,12 +1,10 @@
 -- The index that a refusal of the check names is below the count claimed, and so within 01's 4001 points. Assumes nothing.
-use mathlib.Core.Path.{_≡_, refl, sym, ap, _∙_, subst}
+use mathlib.Core.Path.{_≡_, refl, sym, ap, _∙_}
 use mathlib.Core.Bool.{Bool, true, false}
 use mathlib.Core.List.{List}
-use Prim.Native.Nat.{ℕ, zero, suc, _+_, _-_, _≤_, _<_}
+use Prim.Native.Nat.{ℕ, zero, suc, _+_, _-_, _≤_}
 use native.Mathlib.Omega.{arith}
-use lib.Dec.{ltb}
 use lib.Ieee.{Float}
-use borrow.Author.Tests.{ltb-false}
 use Rattle.loops.specs.Loop.{pick, on, searched}
 use Rattle.loops.proofs.Loop.{searched-out, searched-end, searched-step}
 use Rattle.number.specs.Operators.{_≤?_}
@@ -17,7 +15,6 @@ use Rattle.tolerance.specs.declared.Tolerance.{Tolerance}
 use Rattle.tolerance.specs.Tolerance.{toleranceFit}
 use Rattle.geometry.specs.Point.{distanceOf}
 use Rattle.patch.specs.declared.patch.Patch.{Patch}
-use Rattle.patch.specs.declared.patch.Fitness.{Fitness}
 use Rattle.patch.specs.declared.patch.Fitness.the-variants.{Fit, Unfit}
 use Rattle.patch.specs.Located.{pointA, pointB}
 use Rattle.patch.specs.Patch.{numbersFit, sizesFit, windowFit, markFit, uIsAngle, vIsAngle, fitnessOf, insideOf}

@@ -5,7 +5,7 @@ use Prim.Native.Nat.{ℕ}
 use native.Mathlib.Nat.{lt-of-le-of-lt, lt-of-lt-of-le}
 use lib.Dec.{T, eqb, lit<}
 use lib.Pow.{pow-pos}
-use lib.Ieee.{Float, ofBits, le}
+use lib.Ieee.{Float, ofBits}
 use lib.Ieee.Fits.{and-l, and-r}
 use lib.Ieee.Positive.{positive, between}
 use lib.Ieee.Scale.{finite}

@@ -5,7 +5,6 @@ use mathlib.Core.List.{List, [], _∷_, _++_, reverse, reverse-cons}
 use Prim.Native.Nat.{ℕ, zero, suc, _+_, _-_, _*_, _≤_, _<_}
 use native.Mathlib.Omega.{arith}
 use borrow.Author.Tests.{eqb-false}
-use lib.Dec.{T}
 use lib.Ieee.{Float}
 use lib.ListN.{length, getD, length-append, length-reverse, List·getD-append}
 use lib.Seq.{getD-append-seam}
