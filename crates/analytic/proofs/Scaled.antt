@@ -3,10 +3,10 @@ use mathlib.Core.Path.{_≡_}
 use lib.Ieee.{Float, neg}
 use Rattle.number.specs.Operators.{_⊗_}
 use Rattle.fdlibm.specs.Sine.{sinOf, cosOf}
-use Rattle.vector.specs.declared.Vector3D.{Vector3D}
+use Rattle.geometry.specs.declared.vector.Vector3D.{Vector3D}
 use Rattle.geometry.specs.declared.frame.Frame3D.{Frame3D}
-use Rattle.vector.specs.Vector.{addOf, scaleOf}
-use Rattle.vector.proofs.Laws.{times-scale}
+use Rattle.geometry.specs.Vector.{addOf, scaleOf}
+use Rattle.geometry.proofs.Vector.{times-scale}
 use Rattle.analytic.specs.declared.analytic.Derivatives.{Derivatives}
 use Rattle.analytic.specs.Analytic.{coneRadius, torusRadius, cylinderDerivatives, coneDerivatives, sphereDerivatives, torusDerivatives}
 

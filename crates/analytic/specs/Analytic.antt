@@ -3,9 +3,9 @@ use lib.Ieee.{Float, neg}
 use Rattle.number.specs.Operators.{bits, _⊕_, _⊗_}
 use Rattle.fdlibm.specs.Sine.{sinOf, cosOf}
 use Rattle.geometry.specs.declared.point.Point3D.{Point3D}
-use Rattle.vector.specs.declared.Vector3D.{Vector3D}
+use Rattle.geometry.specs.declared.vector.Vector3D.{Vector3D}
 use Rattle.geometry.specs.declared.frame.Frame3D.{Frame3D}
-use Rattle.vector.specs.Vector.{addOf, timesOf}
+use Rattle.geometry.specs.Vector.{addOf, timesOf}
 use Rattle.geometry.specs.Frame.{pointAtOf}
 use Rattle.analytic.specs.declared.analytic.Derivatives.{Derivatives}
 

@@ -2,7 +2,7 @@
 // The Rust works out one derivative a call; here one set of sines and cosines serves both.
 use geometry::Frame3D;
 use geometry::Point3D;
-use vector::Vector3D;
+use geometry::Vector3D;
 ghost use mathlib.Core.Path.{_≡_};
 ghost use Rattle.analytic.specs.Analytic.{planeD0, cylinderD0, coneD0, sphereD0, torusD0, planeDerivatives, cylinderDerivatives, coneDerivatives, sphereDerivatives, torusDerivatives};
 

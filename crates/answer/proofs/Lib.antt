@@ -1,1 +1,4 @@
 pub mod Told
+pub mod Text
+pub mod Decimal
+pub mod Charted

@@ -15,7 +15,7 @@ use Rattle.walk.specs.Trace.{refusalOf, countOf, startOf, closingOf, traceOf}
 use Rattle.job.specs.declared.file.JobRead.{JobRead}
 use Rattle.job.specs.declared.file.JobRead.the-variants.{Whole, Refused}
 use Rattle.job.specs.File.{jobOf}
-use Rattle.line.specs.Line.{traceLine, refusedLine, written}
+use Rattle.answer.specs.Line.{traceLine, refusedLine, written}
 use Rattle.passing.specs.Promises.{JobPasses}
 
 -- "It writes one line: `trace`, count, start index, code in decimal, or `refused` and the number."

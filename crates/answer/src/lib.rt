@@ -1,10 +1,12 @@
 //! A job answered: its file read, the line walked over numbers lent here, and the answer's line made.
+pub mod line;
+
+use crate::line::LINE;
 use job::JobRead;
-use line::LINE;
 use walk::Traced;
 ghost use mathlib.Core.Path.{_≡_};
 ghost use lib.ListN.{length};
-ghost use Rattle.line.specs.Line.{written};
+ghost use Rattle.answer.specs.Line.{written};
 ghost use Rattle.answer.specs.Answer.{answerLine, answerOf, LinePromise};
 
 // Puts the answer's line at the front of the lent bytes; how many it has.
@@ -13,9 +15,9 @@ fn put_line(answer: Traced, line: &mut [u8; LINE]) -> usize
 {
     match answer {
         Traced::Line(count, start, code) => {
-            line::trace_line(count as u64, start as u64, code as u64, line)
+            crate::line::trace_line(count as u64, start as u64, code as u64, line)
         }
-        Traced::Refused(refusal) => line::refused_line(refusal.number(), line),
+        Traced::Refused(refusal) => crate::line::refused_line(refusal.number(), line),
     }
 }
 

@@ -3,7 +3,7 @@ use lib.Ieee as Ieee
 use Rattle.loops.specs.Loop.{turns, exits}
 use Rattle.number.specs.Helpers.{absOf, maxOf, minOf, numberFit}
 use Rattle.groups.specs.Groups.{holdsOf}
-use Rattle.tolerance.specs.Tolerance.{toleranceFit}
+use Rattle.geometry.specs.Tolerance.{toleranceFit}
 use Rattle.geometry.specs.Point.{pointOf, pointFit}
 use Rattle.boxes.specs.Box.{boxesApart}
 use Rattle.boxes.specs.Bounds.{pointBox, coverOf, boundsOf}

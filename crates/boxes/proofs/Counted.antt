@@ -13,8 +13,8 @@ use Rattle.loops.proofs.Some.{some-found, some-at, some-none, some-fails}
 use Rattle.groups.specs.Groups.{width, fromGroup, holdsOf}
 use Rattle.groups.proofs.Groups.{holds-length}
 use Rattle.groups.proofs.Rows.{point-from}
-use Rattle.tolerance.specs.Tolerance.{toleranceFit}
-use Rattle.tolerance.specs.declared.Tolerance.{Tolerance}
+use Rattle.geometry.specs.Tolerance.{toleranceFit}
+use Rattle.geometry.specs.declared.tolerance.Tolerance.{Tolerance}
 use Rattle.refusal.specs.declared.Refusal.the-variants as refusal
 use Rattle.boxes.specs.declared.boxtree.Aabb.{Aabb}
 use Rattle.boxes.specs.Box.{boxesApart}

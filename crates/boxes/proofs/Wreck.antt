@@ -7,7 +7,7 @@ use lib.ListN.{replicate}
 use lib.Ieee.{Float}
 use Rattle.number.specs.Operators.{bits}
 use Rattle.groups.specs.Groups.{width}
-use Rattle.tolerance.specs.declared.Tolerance.{Tolerance}
+use Rattle.geometry.specs.declared.tolerance.Tolerance.{Tolerance}
 use Rattle.boxes.specs.declared.boxtree.Aabb.{Aabb}
 use Rattle.boxes.specs.declared.crossing.Crossed.the-variants.{No}
 use Rattle.boxes.specs.Box.{boxesApart}

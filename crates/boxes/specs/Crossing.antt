@@ -9,8 +9,8 @@ use Rattle.loops.specs.Some.{some}
 use Rattle.number.specs.Operators.{_<?_}
 use Rattle.groups.specs.Groups.{width, holdsOf}
 use Rattle.groups.specs.Row.{pointAt}
-use Rattle.tolerance.specs.Tolerance.{toleranceFit}
-use Rattle.tolerance.specs.declared.Tolerance.{Tolerance}
+use Rattle.geometry.specs.Tolerance.{toleranceFit}
+use Rattle.geometry.specs.declared.tolerance.Tolerance.{Tolerance}
 use Rattle.geometry.specs.Point.{pointFit}
 use Rattle.refusal.specs.Refusal.{numberOf}
 use Rattle.refusal.specs.declared.Refusal.the-variants as refusal

@@ -1,8 +1,8 @@
 use crate::boxtree::Aabb;
 use crate::marching;
+use geometry::Tolerance;
 use groups::row::point_at;
 use refusal::Refusal;
-use tolerance::Tolerance;
 ghost use mathlib.Core.Path.{_≡_};
 ghost use Prim.Native.Nat.{_*_, _≤_};
 ghost use lib.ListN.{length};

@@ -14,7 +14,7 @@ use Rattle.groups.specs.declared.row.Row.{Row}
 use Rattle.groups.specs.Row.{rowAt, pointAt}
 use Rattle.geometry.specs.declared.point.Point3D.{Point3D}
 use Rattle.geometry.specs.declared.frame.Frame3D.{Frame3D}
-use Rattle.vector.specs.Vector.{scaleOf}
+use Rattle.geometry.specs.Vector.{scaleOf}
 use Rattle.geometry.specs.Point.{addVectorOf}
 use Rattle.geometry.specs.Frame.{pointAtOf}
 use Rattle.gap.specs.Gap.{PointFits}

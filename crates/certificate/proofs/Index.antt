@@ -11,8 +11,8 @@ use Rattle.number.specs.Operators.{_≤?_}
 use Rattle.groups.specs.Groups.{width, holdsOf}
 use Rattle.groups.specs.Row.{pointAt}
 use Rattle.refusal.specs.declared.Refusal.the-variants as refusal
-use Rattle.tolerance.specs.declared.Tolerance.{Tolerance}
-use Rattle.tolerance.specs.Tolerance.{toleranceFit}
+use Rattle.geometry.specs.declared.tolerance.Tolerance.{Tolerance}
+use Rattle.geometry.specs.Tolerance.{toleranceFit}
 use Rattle.geometry.specs.Point.{distanceOf}
 use Rattle.patch.specs.declared.patch.Patch.{Patch}
 use Rattle.patch.specs.declared.patch.Fitness.the-variants.{Fit, Unfit}

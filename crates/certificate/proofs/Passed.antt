@@ -23,9 +23,9 @@ use Rattle.groups.proofs.Groups.{holds-length}
 use Rattle.groups.proofs.Rows.{row-there}
 use Rattle.refusal.specs.declared.Refusal.{Refusal}
 use Rattle.refusal.specs.declared.Refusal.the-variants as refusal
-use Rattle.tolerance.specs.declared.Tolerance.{Tolerance}
+use Rattle.geometry.specs.declared.tolerance.Tolerance.{Tolerance}
 use Rattle.geometry.specs.Point.{distanceOf, longestChord}
-use Rattle.tolerance.specs.Tolerance.{toleranceFit}
+use Rattle.geometry.specs.Tolerance.{toleranceFit}
 use Rattle.patch.specs.declared.patch.Patch.{Patch}
 use Rattle.patch.specs.declared.patch.Fitness.{Fitness}
 use Rattle.patch.specs.declared.patch.Fitness.the-variants.{Fit, Unfit}

@@ -15,9 +15,9 @@ use Rattle.refusal.specs.declared.Refusal.{Refusal}
 use Rattle.refusal.specs.declared.Refusal.the-variants as refusal
 use Rattle.refusal.specs.Refusal as number
 use Rattle.geometry.specs.declared.point.Point3D.{Point3D}
-use Rattle.tolerance.specs.declared.Tolerance.{Tolerance}
+use Rattle.geometry.specs.declared.tolerance.Tolerance.{Tolerance}
 use Rattle.geometry.specs.Point.{distanceOf, longestChord}
-use Rattle.tolerance.specs.Tolerance.{toleranceFit}
+use Rattle.geometry.specs.Tolerance.{toleranceFit}
 use Rattle.patch.specs.declared.patch.Patch.{Patch}
 use Rattle.patch.specs.declared.patch.Parameters.{Parameters}
 use Rattle.patch.specs.declared.patch.Fitness.{Fitness}

@@ -11,9 +11,9 @@ use Rattle.loops.specs.Loop.{pick}
 use Rattle.number.specs.Operators.{_≤?_}
 use Rattle.groups.specs.Groups.{width}
 use Rattle.groups.specs.Row.{rowAt, pointAt}
-use Rattle.tolerance.specs.declared.Tolerance.{Tolerance}
+use Rattle.geometry.specs.declared.tolerance.Tolerance.{Tolerance}
 use Rattle.geometry.specs.Point.{distanceOf, longestChord}
-use Rattle.tolerance.specs.Tolerance.{toleranceFit}
+use Rattle.geometry.specs.Tolerance.{toleranceFit}
 use Rattle.patch.specs.declared.patch.Patch.{Patch}
 use Rattle.patch.specs.declared.patch.Parameters.{Parameters}
 use Rattle.patch.specs.declared.patch.Fitness.the-variants.{Fit}

@@ -1,4 +1,5 @@
 use geometry::Point3D;
+use geometry::Tolerance;
 use groups::Row;
 use groups::row::point_at;
 use groups::row::row_of;
@@ -6,7 +7,6 @@ use patch::Fitness;
 use patch::Parameters;
 use patch::Patch;
 use refusal::Refusal;
-use tolerance::Tolerance;
 ghost use mathlib.Core.Path.{_≡_};
 ghost use Prim.Native.Nat.{_+_, _*_, _≤_, _<_};
 ghost use lib.ListN.{length};

@@ -2,7 +2,7 @@
 use mathlib.Core.Path.{refl}
 use lib.Ieee.{toBits, ofBits}
 use Rattle.sqrt.specs.Sqrt.{sqrtOf}
-use Rattle.vector.specs.Vector.{vectorOf, zeroVector, scaleOf}
+use Rattle.geometry.specs.Vector.{vectorOf, zeroVector, scaleOf}
 use Rattle.geometry.specs.Point.{pointOf, addVectorOf}
 use Rattle.geometry.specs.Frame.{pointAtOf}
 use Rattle.analytic.specs.Analytic.{planeD0, cylinderD0}
@@ -12,10 +12,10 @@ use Rattle.solve.proofs.Computing as solve
 use Rattle.boxes.proofs.Computing as boxes
 use Rattle.marching.specs.Leaving.{leavingOf, firstOf, considerOf, lesserOf}
 use Rattle.marching.specs.Tangent.{normalOf, unitCross, tangentOf}
-use Rattle.good.proofs.Evaluated as meeting
+use Rattle.meeting.proofs.Evaluated as meeting
 use Rattle.number.specs.Helpers.{numberFit}
 use Rattle.geometry.specs.Point.{pointFit}
-use Rattle.tolerance.specs.Tolerance.{defaultTolerance, toleranceFit}
+use Rattle.geometry.specs.Tolerance.{defaultTolerance, toleranceFit}
 use Rattle.patch.specs.Patch.{vectorFit, frameFit, numbersFit, sizesFit, windowFit, markFit, uIsAngle, vIsAngle, fitnessOf}
 use Rattle.walk.specs.Trace.{guessFinite, limitsOf, callFitness, walkedOf, traceOf}
 use Rattle.examples.specs.Table.{Table}

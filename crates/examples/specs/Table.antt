@@ -10,8 +10,8 @@ use lib.Ieee.{Float, fin, binary64, toBits}
 use Rattle.number.specs.Operators.{bits}
 use Rattle.number.specs.Helpers.{one, half, two}
 use Rattle.groups.specs.Row.{zero}
-use Rattle.tolerance.specs.declared.Tolerance.{Tolerance}
-use Rattle.tolerance.specs.Tolerance.{defaultTolerance}
+use Rattle.geometry.specs.declared.tolerance.Tolerance.{Tolerance}
+use Rattle.geometry.specs.Tolerance.{defaultTolerance}
 use Rattle.analytic.specs.declared.surface.Surface.{Surface}
 use Rattle.patch.specs.declared.patch.Patch.{Patch}
 use Rattle.patch.specs.declared.patch.Parameters.{Parameters}
@@ -20,16 +20,16 @@ use Rattle.marching.specs.Leaving.{leavingOf}
 use Rattle.boxes.specs.declared.boxtree.Aabb.{Aabb}
 use Rattle.boxes.specs.declared.crossing.Crossed.the-variants as crossed
 use Rattle.boxes.specs.Crossing.{crossingOf}
-use Rattle.vector.specs.declared.Vector3D.{Vector3D}
+use Rattle.geometry.specs.declared.vector.Vector3D.{Vector3D}
 use Rattle.geometry.specs.declared.frame.Frame3D.{Frame3D}
-use Rattle.vector.specs.Vector.{vectorOf, zeroVector}
+use Rattle.geometry.specs.Vector.{vectorOf, zeroVector}
 use Rattle.geometry.specs.Point.{pointOf, addVectorOf}
 use Rattle.analytic.specs.declared.surface.Surface.the-variants.{Plane, Cylinder}
 use Rattle.analytic.specs.Surface.{evalPoint}
 use Rattle.sqrt.specs.Sqrt.{sqrtOf}
-use Rattle.cramer.specs.Cramer.{solve2Of}
+use Rattle.solve.specs.Cramer.{solve2Of}
 use Rattle.solve.specs.Solve.{solve3Of}
-use Rattle.cramer.specs.declared.Solved2.the-variants as solved2
+use Rattle.solve.specs.declared.cramer.Solved2.the-variants as solved2
 use Rattle.solve.specs.declared.Solved3.the-variants as solved3
 use Rattle.walk.specs.Trace.{Outcome, traceOf, refusalOf}
 

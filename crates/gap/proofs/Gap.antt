@@ -24,9 +24,9 @@ use Rattle.sqrt.specs.Sqrt.{sqrtOf}
 use Rattle.sqrt.proofs.AtMost.{squared, sum-over}
 use Rattle.sqrt.proofs.Laws.{UnderRoot, sqrt-le-finite, sqrt-rooted, sqrt-sign}
 use Rattle.geometry.specs.declared.point.Point3D.{Point3D}
-use Rattle.tolerance.specs.declared.Tolerance.{Tolerance}
-use Rattle.tolerance.specs.Tolerance.{leastConfusion, toleranceFit}
-use Rattle.vector.specs.Vector.{squareMagnitudeOf, magnitudeOf}
+use Rattle.geometry.specs.declared.tolerance.Tolerance.{Tolerance}
+use Rattle.geometry.specs.Tolerance.{leastConfusion, toleranceFit}
+use Rattle.geometry.specs.Vector.{squareMagnitudeOf, magnitudeOf}
 use Rattle.geometry.specs.Point.{distanceOf, fromOf, squareOf, exactSquare}
 use Rattle.gap.specs.Gap.{PointFits, PointFinite, ExactlyWithin}
 use Rattle.gap.proofs.Chain.{chain, final}

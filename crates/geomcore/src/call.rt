@@ -1,10 +1,10 @@
 use boxes::Aabb;
 use boxes::Crossed;
 use certificate::check::Checked;
+use geometry::Tolerance;
 use patch::Located;
 use patch::Parameters;
 use patch::Patch;
-use tolerance::Tolerance;
 use walk::Traced;
 ghost use Rattle.passing.specs.Promises.{PointPromise, TracePromise, CheckPromise, CrossingPromise};
 

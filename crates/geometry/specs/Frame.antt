@@ -2,7 +2,7 @@
 use lib.Ieee.{Float}
 use Rattle.geometry.specs.declared.point.Point3D.{Point3D}
 use Rattle.geometry.specs.declared.frame.Frame3D.{Frame3D}
-use Rattle.vector.specs.Vector.{scaleOf}
+use Rattle.geometry.specs.Vector.{scaleOf}
 use Rattle.geometry.specs.Point.{addVectorOf}
 
 -- point_at: each coordinate is ((origin + a * x) + b * y) + c * z, also where c is 0

@@ -1,2 +1,4 @@
 pub mod Point
 pub mod Frame
+pub mod Vector
+pub mod Tolerance

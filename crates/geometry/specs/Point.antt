@@ -7,7 +7,7 @@ use Rattle.number.specs.Operators.{bits, _⊕_, _⊖_, _⊗_}
 use Rattle.number.specs.Helpers.{numberFit}
 use Rattle.number.specs.Units.{inUnits}
 use Rattle.sqrt.specs.Sqrt.{sqrtOf}
-use Rattle.vector.specs.declared.Vector3D.{Vector3D}
+use Rattle.geometry.specs.declared.vector.Vector3D.{Vector3D}
 use Rattle.geometry.specs.declared.point.Point3D.{Point3D}
 
 -- Point3D::new

@@ -1,5 +1,5 @@
 use crate::point::Point3D;
-use vector::Vector3D;
+use crate::vector::Vector3D;
 ghost use mathlib.Core.Path.{_≡_};
 ghost use Rattle.geometry.specs.Frame.{pointAtOf};
 

@@ -1,4 +1,4 @@
-use vector::Vector3D;
+use crate::vector::Vector3D;
 ghost use mathlib.Core.Path.{_≡_};
 ghost use Rattle.number.specs.Operators.{_≤?_};
 ghost use Rattle.geometry.specs.Point.{pointOf, distanceOf, addVectorOf, fromOf, pointFit};

@@ -10,7 +10,7 @@ use Rattle.number.specs.Operators.{bits}
 use Rattle.wire.specs.Wire.{byteAt, twoAt, fourAt, eightAt, numberAt}
 use Rattle.refusal.specs.declared.Refusal.the-variants.{JobFile}
 use Rattle.geometry.specs.declared.point.Point3D.{Point3D}
-use Rattle.vector.specs.declared.Vector3D.{Vector3D}
+use Rattle.geometry.specs.declared.vector.Vector3D.{Vector3D}
 use Rattle.geometry.specs.declared.frame.Frame3D.{Frame3D}
 use Rattle.analytic.specs.declared.surface.Surface.{Surface}
 use Rattle.analytic.specs.declared.surface.Surface.the-variants.{Plane, Cylinder, Cone, Sphere, Torus}

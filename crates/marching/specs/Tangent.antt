@@ -4,17 +4,17 @@ use lib.Ieee.{Float}
 use Rattle.loops.specs.Loop.{pick}
 use Rattle.number.specs.Operators.{bits, _⊕_, _⊗_, _⊘_, _≤?_}
 use Rattle.number.specs.Helpers.{one, minPositive, maxOf}
-use Rattle.vector.specs.declared.Vector3D.{Vector3D}
-use Rattle.tolerance.specs.declared.Tolerance.{Tolerance}
-use Rattle.vector.specs.Vector.{dotOf, crossOf, magnitudeOf, scaleOf}
+use Rattle.geometry.specs.declared.vector.Vector3D.{Vector3D}
+use Rattle.geometry.specs.declared.tolerance.Tolerance.{Tolerance}
+use Rattle.geometry.specs.Vector.{dotOf, crossOf, magnitudeOf, scaleOf}
 use Rattle.patch.specs.declared.patch.Patch.{Patch}
 use Rattle.patch.specs.declared.patch.Parameters.{Parameters}
 use Rattle.analytic.specs.declared.analytic.Derivatives.{Derivatives}
 use Rattle.analytic.specs.Surface.{evalD1}
-use Rattle.cramer.specs.declared.Solution2.{Solution2}
-use Rattle.cramer.specs.declared.Solved2.{Solved2}
-use Rattle.cramer.specs.declared.Solved2.the-variants.{Solution, Singular}
-use Rattle.cramer.specs.Cramer.{solverTol, solve2Of}
+use Rattle.solve.specs.declared.cramer.Solution2.{Solution2}
+use Rattle.solve.specs.declared.cramer.Solved2.{Solved2}
+use Rattle.solve.specs.declared.cramer.Solved2.the-variants.{Solution, Singular}
+use Rattle.solve.specs.Cramer.{solverTol, solve2Of}
 use Rattle.marching.specs.declared.tangent.Direction.{Direction}
 use Rattle.marching.specs.declared.tangent.Direction.the-variants.{Along, Missing}
 

@@ -1,11 +1,11 @@
 // `tangent` and `predict` of the Rust.
 use analytic::Derivatives;
-use cramer::Solution2;
-use cramer::Solved2;
+use geometry::Tolerance;
+use geometry::Vector3D;
 use patch::Parameters;
 use patch::Patch;
-use tolerance::Tolerance;
-use vector::Vector3D;
+use solve::cramer::Solution2;
+use solve::cramer::Solved2;
 ghost use mathlib.Core.Path.{_≡_};
 ghost use mathlib.Core.Bool.{true};
 ghost use lib.Dec.{T};
@@ -92,7 +92,7 @@ fn shift(s: Derivatives, d: Vector3D) -> Solution2
     let uu = su.dot(su);
     let uv = su.dot(sv);
     let vv = sv.dot(sv);
-    let solved = cramer::solve_2x2([[uu, uv], [uv, vv]], [su.dot(d), sv.dot(d)], 1e-12);
+    let solved = solve::cramer::solve_2x2([[uu, uv], [uv, vv]], [su.dot(d), sv.dot(d)], 1e-12);
     match solved {
         Solved2::Solution(x) => x,
         Solved2::Singular => Solution2 { x0: 0.0, x1: 0.0 },

@@ -1,2 +1,4 @@
 pub mod Rounds
 pub mod Symmetric
+pub mod Good
+pub mod Evaluated

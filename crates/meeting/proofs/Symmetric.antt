@@ -3,7 +3,7 @@ use mathlib.Core.Path.{_≡_}
 use mathlib.Core.List.{List, [], _∷_}
 use lib.Ieee.{Float}
 use Rattle.number.proofs.Symmetry.{mul-swap}
-use Rattle.vector.specs.declared.Vector3D.{Vector3D}
+use Rattle.geometry.specs.declared.vector.Vector3D.{Vector3D}
 use Rattle.meeting.specs.declared.step.Columns.{Columns}
 use Rattle.meeting.specs.Step.{dot4Of, rowDot, normalMatrix}
 

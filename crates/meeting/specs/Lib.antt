@@ -1,3 +1,4 @@
 pub mod Parameters
 pub mod Step
 pub mod Newton
+pub mod Good

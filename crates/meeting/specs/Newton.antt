@@ -5,10 +5,10 @@ use lib.Ieee.{Float}
 use Rattle.loops.specs.Loop.{pick, Flow, on, out, searched}
 use Rattle.number.specs.Operators.{_⊗_, _<?_, _≤?_}
 use Rattle.number.specs.Helpers.{one, half, tenth, absOf}
-use Rattle.vector.specs.declared.Vector3D.{Vector3D}
+use Rattle.geometry.specs.declared.vector.Vector3D.{Vector3D}
 use Rattle.geometry.specs.declared.point.Point3D.{Point3D}
-use Rattle.tolerance.specs.declared.Tolerance.{Tolerance}
-use Rattle.vector.specs.Vector.{magnitudeOf}
+use Rattle.geometry.specs.declared.tolerance.Tolerance.{Tolerance}
+use Rattle.geometry.specs.Vector.{magnitudeOf}
 use Rattle.patch.specs.declared.patch.Patch.{Patch}
 use Rattle.patch.specs.declared.patch.Parameters.{Parameters}
 use Rattle.patch.specs.Patch.{insideOf, withinBounds}

@@ -7,9 +7,9 @@ use lib.Ieee.{Float, neg}
 use Rattle.loops.specs.Loop.{pick}
 use Rattle.number.specs.Operators.{bits, _⊕_, _⊗_}
 use Rattle.number.specs.Helpers.{sumStart}
-use Rattle.vector.specs.declared.Vector3D.{Vector3D}
+use Rattle.geometry.specs.declared.vector.Vector3D.{Vector3D}
 use Rattle.geometry.specs.declared.point.Point3D.{Point3D}
-use Rattle.vector.specs.Vector.{vectorOf, dotOf, negOf}
+use Rattle.geometry.specs.Vector.{vectorOf, dotOf, negOf}
 use Rattle.geometry.specs.Point.{fromOf}
 use Rattle.patch.specs.declared.patch.Patch.{Patch}
 use Rattle.patch.specs.declared.patch.Parameters.{Parameters}
@@ -20,7 +20,7 @@ use Rattle.solve.specs.declared.Solved3.{Solved3}
 use Rattle.solve.specs.declared.Solved4.{Solved4}
 use Rattle.solve.specs.declared.Solved3.the-variants as solved3
 use Rattle.solve.specs.declared.Solved4.the-variants as solved4
-use Rattle.cramer.specs.Cramer.{solverTol}
+use Rattle.solve.specs.Cramer.{solverTol}
 use Rattle.solve.specs.Solve.{solve3Of, solve4Of}
 use Rattle.meeting.specs.declared.step.Target.{Target}
 use Rattle.meeting.specs.declared.step.Target.the-variants.{Free, Plane, Pin}

@@ -7,12 +7,12 @@ use crate::step::newton_step;
 use crate::step::residual_at;
 use crate::step::shifted;
 use geometry::Point3D;
+use geometry::Tolerance;
+use geometry::Vector3D;
 use patch::Parameters;
 use patch::Patch;
 use patch::inside;
 use patch::within_bounds;
-use tolerance::Tolerance;
-use vector::Vector3D;
 ghost use mathlib.Core.Path.{_≡_};
 ghost use Rattle.meeting.specs.Newton.{nearOf, trialsOf, lastTest, roundOf, newtonOf, meetOf, meetInPlaneOf, landOf};
 

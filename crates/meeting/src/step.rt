@@ -2,12 +2,12 @@
 use crate::parameters::parameter;
 use crate::parameters::with_parameter;
 use geometry::Point3D;
+use geometry::Vector3D;
 use patch::Parameters;
 use patch::Patch;
 use solve::Solution3;
 use solve::Solved3;
 use solve::Solved4;
-use vector::Vector3D;
 ghost use mathlib.Core.Path.{_≡_};
 ghost use Prim.Native.Nat.{_<_};
 ghost use Rattle.meeting.specs.Step.{offsetOf, residualOf, columnsOf, dot4Of, normalMatrix, freeStep, planeStep, columnOf, freeOf, placedOf, pinStep, newtonStep, shiftedOf};

@@ -14,9 +14,9 @@ use Rattle.sqrt.specs.Sqrt.{sqrtOf}
 use Rattle.groups.specs.Groups.{holdsOf}
 use Rattle.groups.specs.Row.{rowOf}
 use Rattle.refusal.specs.declared.Refusal.the-variants as refusal
-use Rattle.tolerance.specs.declared.Tolerance.{Tolerance}
-use Rattle.tolerance.specs.Tolerance.{toleranceFit}
-use Rattle.vector.specs.Vector.{vectorOf, scaleOf}
+use Rattle.geometry.specs.declared.tolerance.Tolerance.{Tolerance}
+use Rattle.geometry.specs.Tolerance.{toleranceFit}
+use Rattle.geometry.specs.Vector.{vectorOf, scaleOf}
 use Rattle.geometry.specs.Point.{pointOf, distanceOf, addVectorOf, pointFit}
 use Rattle.geometry.specs.Frame.{pointAtOf}
 use Rattle.analytic.specs.declared.surface.Surface.the-variants.{Plane}

@@ -2,7 +2,7 @@
 use Prim.Native.Nat.{ℕ}
 use mathlib.Core.List.{List}
 use lib.Ieee.{Float}
-use Rattle.tolerance.specs.declared.Tolerance.{Tolerance}
+use Rattle.geometry.specs.declared.tolerance.Tolerance.{Tolerance}
 use Rattle.gap.proofs.Gap.{exact-gap, fit-tolerance, finite-between, gap-finite}
 use Rattle.patch.specs.declared.patch.Patch.{Patch}
 use Rattle.patch.specs.Located.{pointA, pointB}

@@ -11,14 +11,14 @@ use Rattle.loops.specs.Loop.{pick}
 use Rattle.loops.proofs.Loop.{Kept, searched-keeps-at}
 use Rattle.number.specs.Operators.{_≤?_}
 use Rattle.geometry.specs.declared.point.Point3D.{Point3D}
-use Rattle.vector.specs.declared.Vector3D.{Vector3D}
-use Rattle.tolerance.specs.declared.Tolerance.{Tolerance}
+use Rattle.geometry.specs.declared.vector.Vector3D.{Vector3D}
+use Rattle.geometry.specs.declared.tolerance.Tolerance.{Tolerance}
 use Rattle.geometry.specs.Point.{distanceOf, longestChord}
 use Rattle.gap.proofs.Gap.{distance-swap}
 use Rattle.patch.specs.declared.patch.Patch.{Patch}
 use Rattle.patch.specs.declared.patch.Parameters.{Parameters}
 use Rattle.patch.specs.Located.{pointA}
-use Rattle.good.specs.Good.{Good}
+use Rattle.meeting.specs.Good.{Good}
 use Rattle.step.specs.Step.{stepOf}
 use Rattle.walk.specs.Half.{Walked, Halfway, firstWalker, withoutLast, afterStep, halfStep, halfSpent, halfOf}
 use Rattle.step.specs.Closing.{firstStride}

@@ -9,11 +9,11 @@ use lib.Ieee.{Float}
 use lib.ListN.{length, getD, length-append, length-reverse, List·getD-append}
 use lib.Seq.{getD-append-seam}
 use Rattle.loops.specs.Loop.{pick}
-use Rattle.vector.specs.declared.Vector3D.{Vector3D}
-use Rattle.tolerance.specs.declared.Tolerance.{Tolerance}
+use Rattle.geometry.specs.declared.vector.Vector3D.{Vector3D}
+use Rattle.geometry.specs.declared.tolerance.Tolerance.{Tolerance}
 use Rattle.patch.specs.declared.patch.Patch.{Patch}
 use Rattle.patch.specs.declared.patch.Parameters.{Parameters}
-use Rattle.good.specs.Good.{Good}
+use Rattle.meeting.specs.Good.{Good}
 use Rattle.certificate.specs.Passes.{closingChord}
 use Rattle.walk.specs.Half.{halfOf}
 use Rattle.walk.specs.Line.{Line, forward, backward, lineOf}

@@ -14,8 +14,8 @@ use Rattle.groups.specs.Row.{zero}
 use Rattle.refusal.specs.declared.Refusal.{Refusal}
 use Rattle.refusal.specs.declared.Refusal.the-variants as refusal
 use Rattle.refusal.proofs.Laws.{number-positive}
-use Rattle.tolerance.specs.declared.Tolerance.{Tolerance}
-use Rattle.tolerance.specs.Tolerance.{toleranceFit}
+use Rattle.geometry.specs.declared.tolerance.Tolerance.{Tolerance}
+use Rattle.geometry.specs.Tolerance.{toleranceFit}
 use Rattle.patch.specs.declared.patch.Patch.{Patch}
 use Rattle.patch.specs.declared.patch.Parameters.{Parameters}
 use Rattle.patch.specs.declared.patch.Fitness.{Fitness}
@@ -27,8 +27,8 @@ use Rattle.meeting.specs.Newton.{meetOf}
 use Rattle.marching.specs.declared.tangent.Direction.{Direction}
 use Rattle.marching.specs.declared.tangent.Direction.the-variants as direction
 use Rattle.marching.specs.Tangent.{tangentOf}
-use Rattle.good.specs.Good.{Good}
-use Rattle.good.proofs.Good.{meet-good}
+use Rattle.meeting.specs.Good.{Good}
+use Rattle.meeting.proofs.Good.{meet-good}
 use Rattle.certificate.specs.Passes.{Passes}
 use Rattle.walk.specs.Lent.{rowsOf}
 use Rattle.walk.specs.Line.{lineOf}

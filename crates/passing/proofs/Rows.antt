@@ -13,16 +13,16 @@ use Rattle.number.specs.Operators.{_≤?_}
 use Rattle.groups.specs.declared.row.Row.{Row}
 use Rattle.groups.specs.Row.{numbersOf, rowAt, pointAt}
 use Rattle.geometry.specs.declared.point.Point3D.{Point3D}
-use Rattle.tolerance.specs.declared.Tolerance.{Tolerance}
-use Rattle.tolerance.specs.Tolerance.{toleranceFit}
+use Rattle.geometry.specs.declared.tolerance.Tolerance.{Tolerance}
+use Rattle.geometry.specs.Tolerance.{toleranceFit}
 use Rattle.geometry.specs.Point.{distanceOf, longestChord}
 use Rattle.patch.specs.declared.patch.Patch.{Patch}
 use Rattle.patch.specs.declared.patch.Parameters.{Parameters}
 use Rattle.patch.specs.declared.patch.Fitness.the-variants.{Fit}
 use Rattle.patch.specs.Patch.{fitnessOf, insideOf}
 use Rattle.patch.specs.Located.{pointA, pointB}
-use Rattle.good.specs.Good.{Good}
-use Rattle.good.proofs.Good.{good-finite}
+use Rattle.meeting.specs.Good.{Good}
+use Rattle.meeting.proofs.Good.{good-finite}
 use Rattle.certificate.specs.Passes.{closingChord, PointPasses, ClosedAs, claimed-open, forward, backward, Passes}
 use Rattle.walk.specs.Lent.{ownRow, rowsOf}
 use Rattle.walk.proofs.Halves.{rows-length}

@@ -6,7 +6,7 @@ use Rattle.number.specs.Operators.{bits, _<?_, _≤?_}
 use Rattle.number.specs.Helpers.{absOf, clampOf, numberFit}
 use Rattle.refusal.specs.declared.Refusal.the-variants.{Number, Size, TurnMark}
 use Rattle.refusal.specs.declared.Refusal.the-variants as Refusal
-use Rattle.vector.specs.declared.Vector3D.{Vector3D}
+use Rattle.geometry.specs.declared.vector.Vector3D.{Vector3D}
 use Rattle.geometry.specs.declared.frame.Frame3D.{Frame3D}
 use Rattle.geometry.specs.Point.{pointFit}
 use Rattle.analytic.specs.declared.surface.Surface.{Surface}

@@ -1,7 +1,7 @@
 use analytic::Surface;
 use geometry::Frame3D;
+use geometry::Vector3D;
 use refusal::Refusal;
-use vector::Vector3D;
 ghost use mathlib.Core.Path.{_≡_};
 ghost use Rattle.patch.specs.Patch.{vectorFit, frameFit, oneFits, bothFit, bothPositive, coneFits, numbersFit, sizesFit, uIsAngle, vIsAngle, windowFit, markFit, fitnessOf, windowHolds, insideOf, boundedOf, withinBounds};
 

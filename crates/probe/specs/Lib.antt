@@ -1,1 +1,4 @@
 pub mod Probe
+pub mod Call
+pub mod Surface
+pub mod Marching

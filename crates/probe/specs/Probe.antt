@@ -5,10 +5,10 @@ use lib.Dec.{eqb, ltb}
 use lib.ListN.{length, getD, set}
 use lib.Ieee.{Float, nan}
 use Rattle.loops.specs.Loop.{pick}
-use Rattle.cramer.specs.Cramer.{solve2Of}
+use Rattle.solve.specs.Cramer.{solve2Of}
 use Rattle.solve.specs.Solve.{solve3Of, solve4Of}
-use Rattle.cramer.specs.declared.Solved2.{Solved2}
-use Rattle.cramer.specs.declared.Solved2.the-variants as solved2
+use Rattle.solve.specs.declared.cramer.Solved2.{Solved2}
+use Rattle.solve.specs.declared.cramer.Solved2.the-variants as solved2
 use Rattle.solve.specs.declared.Solved3.{Solved3}
 use Rattle.solve.specs.declared.Solved3.the-variants as solved3
 use Rattle.solve.specs.declared.Solved4.{Solved4}

@@ -2,6 +2,10 @@
 //!
 //! The solvers: the input holds the matrix row by row, the right side and tol; a solution goes to the front of the output.
 //! The answer: 1 solved, 0 gave up, 9 a slice too short. Where it is not 1 the output is as it was.
+pub mod call;
+pub mod marching;
+pub mod surface;
+
 ghost use mathlib.Core.Path.{_≡_};
 ghost use Prim.Native.Nat.{_+_, _≤_};
 ghost use lib.ListN.{length};
@@ -28,14 +32,14 @@ fn probe_2x2(input: &[f64], output: &mut [f64]) -> u64
     let r1 = row2(input, 2);
     let b = row2(input, 4);
     let a = [r0, r1];
-    let solved = cramer::solve_2x2(a, b, input[6]);
+    let solved = solve::cramer::solve_2x2(a, b, input[6]);
     match solved {
-        cramer::Solved2::Solution(x) => {
+        solve::cramer::Solved2::Solution(x) => {
             output[0] = x.x0;
             output[1] = x.x1;
             1
         }
-        cramer::Solved2::Singular => 0,
+        solve::cramer::Solved2::Singular => 0,
     }
 }
 

@@ -17,7 +17,7 @@ fn one() -> bool {
         return false;
     }
     let end = 2 + length(wire::two(&record, 0));
-    let mut line = [0u8; line::LINE];
+    let mut line = [0u8; answer::line::LINE];
     let count = answer::answer(&record[2..end], &mut line);
     io::write_all(libc::STDOUT_FILENO, &line[..count])
 }

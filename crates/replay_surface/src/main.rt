@@ -15,7 +15,7 @@ fn same(words: &[u8]) -> bool
     let mut output = [0.0; 6];
     replay::load(&words[24..], &mut numbers);
     replay::load(&words[168..], &mut parameters);
-    let said = probe_surface::probe_surface(
+    let said = probe::surface::probe_surface(
         replay::word(words, 0),
         replay::word(words, 8),
         replay::word(words, 16),

@@ -1,7 +1,7 @@
 // Replays the tolerances of the list on standard input, made by `tools/list_tolerance.py`: confusion, angular, and 1 where refusal 5 lets
 // them through, 24 bytes a record. Its ends and their outer neighbours are document 01's example 12.
+use geometry::Tolerance;
 use replay::Tally;
-use tolerance::Tolerance;
 
 // The next record. Rattle proves it with no proof file, since the loop is apart.
 fn one(tally: Tally) -> Tally {

@@ -2,7 +2,7 @@
 use lib.Ieee as Ieee
 use Rattle.loops.specs.Loop.{turns, exits}
 use Rattle.number.specs.Helpers.{absOf, maxOf}
-use Rattle.cramer.specs.Cramer.{solve2Of}
+use Rattle.solve.specs.Cramer.{solve2Of}
 use Rattle.solve.specs.Solve.{solveOf, solve3Of, solve4Of}
 
 -- an example says `unfolding computing` and `refl`

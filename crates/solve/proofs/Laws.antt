@@ -9,7 +9,7 @@ use Rattle.loops.specs.Loop.{pick, on, out}
 use Rattle.loops.proofs.Loop.{searched-again, searched-leave}
 use Rattle.number.specs.Operators.{_⊖_, _⊗_, _⊘_, _<?_}
 use Rattle.number.specs.Helpers.{absOf}
-use Rattle.cramer.specs.Cramer.{cell, givesUp}
+use Rattle.solve.specs.Cramer.{cell, givesUp}
 use Rattle.solve.specs.Solve.{system, greaterOf, heldOf, better, factorOf, rowReduced, clearRow, substituted, backRow, pivotOf, swapOf, clearedOf, sumOfMagnitudes, column, solving, solveOf, Answer, singular}
 
 -- the better of two rows is a row

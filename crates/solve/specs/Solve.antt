@@ -7,7 +7,7 @@ use lib.Ieee.{Float, nan}
 use Rattle.loops.specs.Loop.{pick, ranged, Flow, on, out, searched}
 use Rattle.number.specs.Operators.{_⊕_, _⊖_, _⊗_, _⊘_, _<?_, bits}
 use Rattle.number.specs.Helpers.{absOf, sumStart}
-use Rattle.cramer.specs.Cramer.{cell, givesUp}
+use Rattle.solve.specs.Cramer.{cell, givesUp}
 use Rattle.solve.specs.declared.Solved3.{Solved3}
 use Rattle.solve.specs.declared.Solved4.{Solved4}
 use Rattle.solve.specs.declared.Solved3.the-variants as solved3

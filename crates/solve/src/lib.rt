@@ -1,8 +1,10 @@
-//! Small linear systems of 3 and 4 unknowns: `solve_square` of the Rust's `math/solve.rs`. Its `solve_2x2` is the crate `cramer`.
+//! Small linear systems: the Rust's `math/solve.rs`. `solve_square` for 3 and 4 unknowns stands here, `solve_2x2` in `cramer`.
 //!
 //! Each solver answers for every input, NaNs and infinities too, and its answer is the one that `specs/Solve.antt` computes.
 //! Rattle has no const generics: what works on one row takes a slice and serves both sizes, and what works on a whole matrix or swaps the
 //! right side stands once for 3 and once for 4, over one definition and one set of laws.
+pub mod cramer;
+
 ghost use mathlib.Core.Path.{_≡_};
 ghost use mathlib.Core.List.{[]};
 ghost use lib.Ieee.{nan};
@@ -223,21 +225,21 @@ pub fn solve_3x3(a: [[f64; 3]; 3], b: [f64; 3], tol: f64) -> Solved3
     let k0 = pivot3(a, 0);
     let r0 = swap_rows3(a, 0, k0);
     let mut b0 = swap3(b, 0, k0);
-    if cramer::gives_up(r0[0][0], tol, scale) {
+    if crate::cramer::gives_up(r0[0][0], tol, scale) {
         return Solved3::Singular;
     }
     let m0 = eliminate3(r0, &mut b0, 0);
     let k1 = pivot3(m0, 1);
     let r1 = swap_rows3(m0, 1, k1);
     let mut b1 = swap3(b0, 1, k1);
-    if cramer::gives_up(r1[1][1], tol, scale) {
+    if crate::cramer::gives_up(r1[1][1], tol, scale) {
         return Solved3::Singular;
     }
     let m1 = eliminate3(r1, &mut b1, 1);
     let k2 = pivot3(m1, 2);
     let r2 = swap_rows3(m1, 2, k2);
     let mut b2 = swap3(b1, 2, k2);
-    if cramer::gives_up(r2[2][2], tol, scale) {
+    if crate::cramer::gives_up(r2[2][2], tol, scale) {
         return Solved3::Singular;
     }
     let m2 = eliminate3(r2, &mut b2, 2);
@@ -377,28 +379,28 @@ pub fn solve_4x4(a: [[f64; 4]; 4], b: [f64; 4], tol: f64) -> Solved4
     let k0 = pivot4(a, 0);
     let r0 = swap_rows4(a, 0, k0);
     let mut b0 = swap4(b, 0, k0);
-    if cramer::gives_up(r0[0][0], tol, scale) {
+    if crate::cramer::gives_up(r0[0][0], tol, scale) {
         return Solved4::Singular;
     }
     let m0 = eliminate4(r0, &mut b0, 0);
     let k1 = pivot4(m0, 1);
     let r1 = swap_rows4(m0, 1, k1);
     let mut b1 = swap4(b0, 1, k1);
-    if cramer::gives_up(r1[1][1], tol, scale) {
+    if crate::cramer::gives_up(r1[1][1], tol, scale) {
         return Solved4::Singular;
     }
     let m1 = eliminate4(r1, &mut b1, 1);
     let k2 = pivot4(m1, 2);
     let r2 = swap_rows4(m1, 2, k2);
     let mut b2 = swap4(b1, 2, k2);
-    if cramer::gives_up(r2[2][2], tol, scale) {
+    if crate::cramer::gives_up(r2[2][2], tol, scale) {
         return Solved4::Singular;
     }
     let m2 = eliminate4(r2, &mut b2, 2);
     let k3 = pivot4(m2, 3);
     let r3 = swap_rows4(m2, 3, k3);
     let mut b3 = swap4(b2, 3, k3);
-    if cramer::gives_up(r3[3][3], tol, scale) {
+    if crate::cramer::gives_up(r3[3][3], tol, scale) {
         return Solved4::Singular;
     }
     let m3 = eliminate4(r3, &mut b3, 3);

@@ -12,10 +12,10 @@ use Rattle.loops.proofs.Loop.{Kept, searched-keeps}
 use Rattle.number.specs.Operators.{bits, _⊗_, _⊘_, _<?_, _≤?_}
 use Rattle.number.specs.Helpers.{two, maxOf, minPositive}
 use Rattle.geometry.specs.declared.point.Point3D.{Point3D}
-use Rattle.vector.specs.declared.Vector3D.{Vector3D}
-use Rattle.tolerance.specs.declared.Tolerance.{Tolerance}
-use Rattle.tolerance.specs.Tolerance.{toleranceFit}
-use Rattle.vector.specs.Vector.{dotOf, scaleOf}
+use Rattle.geometry.specs.declared.vector.Vector3D.{Vector3D}
+use Rattle.geometry.specs.declared.tolerance.Tolerance.{Tolerance}
+use Rattle.geometry.specs.Tolerance.{toleranceFit}
+use Rattle.geometry.specs.Vector.{dotOf, scaleOf}
 use Rattle.geometry.specs.Point.{distanceOf, longestChord, fromOf, addVectorOf}
 use Rattle.patch.specs.declared.patch.Patch.{Patch}
 use Rattle.patch.specs.declared.patch.Parameters.{Parameters}
@@ -29,15 +29,15 @@ use Rattle.marching.specs.Tangent.{tangentOf}
 use Rattle.marching.specs.Leaving.{leavingOf}
 use Rattle.patch.specs.Located.{pointA}
 use Rattle.meeting.specs.Newton.{meetInPlaneOf, landOf}
-use Rattle.good.specs.Good.{Good}
-use Rattle.good.proofs.Good.{meet-in-plane-good, land-good}
-use Rattle.stride.specs.declared.attempt.Walker.{Walker}
-use Rattle.stride.specs.declared.attempt.Tried.{Tried}
-use Rattle.stride.specs.declared.attempt.Tried.the-variants as tried
-use Rattle.stride.specs.declared.shorten.Stride.{Stride}
-use Rattle.stride.specs.declared.shorten.Stride.the-variants as stride
-use Rattle.stride.specs.Attempt.{keptOf, landingKept, afterLanding, landedOf, turnOf, nearCurve, smoothOf, acceptedOf, onwardOf, afterTangent, afterMeeting, innerOf, towards, predicted, attemptOf}
-use Rattle.stride.specs.Shorten.{longestStride, strideStep, afterAttempt, noStride, halvingOf, strideOf}
+use Rattle.meeting.specs.Good.{Good}
+use Rattle.meeting.proofs.Good.{meet-in-plane-good, land-good}
+use Rattle.step.specs.declared.attempt.Walker.{Walker}
+use Rattle.step.specs.declared.attempt.Tried.{Tried}
+use Rattle.step.specs.declared.attempt.Tried.the-variants as tried
+use Rattle.step.specs.declared.shorten.Stride.{Stride}
+use Rattle.step.specs.declared.shorten.Stride.the-variants as stride
+use Rattle.step.specs.Attempt.{keptOf, landingKept, afterLanding, landedOf, turnOf, nearCurve, smoothOf, acceptedOf, onwardOf, afterTangent, afterMeeting, innerOf, towards, predicted, attemptOf}
+use Rattle.step.specs.Shorten.{longestStride, strideStep, afterAttempt, noStride, halvingOf, strideOf}
 use Rattle.step.specs.Closing.{closesOf, nextStride}
 use Rattle.step.specs.Step.{edgeStep, cameRound, innerStep, nearStart, afterStride, stepOf}
 use Rattle.step.specs.declared.step.Stepped.{Stepped}

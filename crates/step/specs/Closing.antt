@@ -5,10 +5,10 @@ use Rattle.number.specs.Operators.{bits, _⊕_, _⊗_, _⊘_, _≤?_}
 use Rattle.number.specs.Helpers.{two, one, maxOf, minOf, minPositive}
 use Rattle.sqrt.specs.Sqrt.{sqrtOf}
 use Rattle.geometry.specs.declared.point.Point3D.{Point3D}
-use Rattle.vector.specs.Vector.{dotOf, scaleOf}
+use Rattle.geometry.specs.Vector.{dotOf, scaleOf}
 use Rattle.geometry.specs.Point.{distanceOf, addVectorOf, fromOf}
-use Rattle.stride.specs.Attempt.{chordDeviation}
-use Rattle.stride.specs.Shorten.{longestStride}
+use Rattle.step.specs.Attempt.{chordDeviation}
+use Rattle.step.specs.Shorten.{longestStride}
 
 -- (start - p).dot(q - p) / (q - p).dot(q - p).max(f64::MIN_POSITIVE)
 unfoldable pub alongOf : Point3D → Point3D → Point3D → Float

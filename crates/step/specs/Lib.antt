@@ -1,2 +1,4 @@
 pub mod Closing
 pub mod Step
+pub mod Attempt
+pub mod Shorten

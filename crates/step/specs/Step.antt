@@ -7,14 +7,14 @@ use Rattle.loops.specs.Loop.{pick}
 use Rattle.number.specs.Operators.{bits, _⊗_, _<?_}
 use Rattle.number.specs.Helpers.{tenth, maxOf}
 use Rattle.geometry.specs.declared.point.Point3D.{Point3D}
-use Rattle.tolerance.specs.declared.Tolerance.{Tolerance}
+use Rattle.geometry.specs.declared.tolerance.Tolerance.{Tolerance}
 use Rattle.geometry.specs.Point.{distanceOf}
 use Rattle.patch.specs.declared.patch.Patch.{Patch}
 use Rattle.patch.specs.declared.patch.Parameters.{Parameters}
-use Rattle.stride.specs.declared.attempt.Walker.{Walker}
-use Rattle.stride.specs.declared.shorten.Stride.{Stride}
-use Rattle.stride.specs.declared.shorten.Stride.the-variants as stride
-use Rattle.stride.specs.Shorten.{strideOf}
+use Rattle.step.specs.declared.attempt.Walker.{Walker}
+use Rattle.step.specs.declared.shorten.Stride.{Stride}
+use Rattle.step.specs.declared.shorten.Stride.the-variants as stride
+use Rattle.step.specs.Shorten.{strideOf}
 use Rattle.step.specs.Closing.{closesOf, nextStride}
 use Rattle.step.specs.declared.step.Stepped.{Stepped}
 use Rattle.step.specs.declared.step.Stepped.the-variants.{Onward, Closed, Edge, Ended}

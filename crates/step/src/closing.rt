@@ -1,7 +1,7 @@
 // When a half has come round, and how long a stride may be.
+use crate::attempt::CHORD_DEVIATION;
+use crate::shorten::H_MAX;
 use geometry::Point3D;
-use stride::CHORD_DEVIATION;
-use stride::H_MAX;
 ghost use mathlib.Core.Path.{_≡_};
 ghost use Rattle.step.specs.Closing.{alongOf, closesOf, firstStride, nextStride};
 

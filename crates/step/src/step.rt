@@ -1,13 +1,13 @@
 // One step of a half.
+use crate::attempt::Walker;
 use crate::closing::closes;
 use crate::closing::next_stride;
+use crate::shorten::Stride;
+use crate::shorten::shorten;
 use geometry::Point3D;
+use geometry::Tolerance;
 use patch::Parameters;
 use patch::Patch;
-use stride::Stride;
-use stride::Walker;
-use stride::shorten::shorten;
-use tolerance::Tolerance;
 ghost use mathlib.Core.Path.{_≡_};
 ghost use Rattle.step.specs.Step.{edgeStep, cameRound, innerStep, stepOf};
 

@@ -12,12 +12,12 @@ use Rattle.loops.proofs.Loop.{searched-again, searched-leave, searched-done}
 use Rattle.groups.specs.declared.row.Row.{Row}
 use Rattle.groups.specs.Row.{numbersOf}
 use Rattle.geometry.specs.declared.point.Point3D.{Point3D}
-use Rattle.vector.specs.declared.Vector3D.{Vector3D}
-use Rattle.tolerance.specs.declared.Tolerance.{Tolerance}
+use Rattle.geometry.specs.declared.vector.Vector3D.{Vector3D}
+use Rattle.geometry.specs.declared.tolerance.Tolerance.{Tolerance}
 use Rattle.patch.specs.declared.patch.Patch.{Patch}
 use Rattle.patch.specs.declared.patch.Parameters.{Parameters}
 use Rattle.patch.specs.Located.{pointA}
-use Rattle.stride.specs.declared.attempt.Walker.{Walker}
+use Rattle.step.specs.declared.attempt.Walker.{Walker}
 use Rattle.step.specs.declared.step.Stepped.{Stepped}
 use Rattle.step.specs.declared.step.Stepped.the-variants.{Onward, Closed, Edge, Ended}
 use Rattle.walk.specs.Lent.{placed, rowFor, ownRow, rowsOf}

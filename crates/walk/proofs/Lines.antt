@@ -12,8 +12,8 @@ use Rattle.loops.specs.Loop.{pick}
 use Rattle.groups.specs.Row.{numbersOf}
 use Rattle.groups.specs.Row as row
 use Rattle.groups.specs.declared.row.Row.{Row}
-use Rattle.vector.specs.declared.Vector3D.{Vector3D}
-use Rattle.tolerance.specs.declared.Tolerance.{Tolerance}
+use Rattle.geometry.specs.declared.vector.Vector3D.{Vector3D}
+use Rattle.geometry.specs.declared.tolerance.Tolerance.{Tolerance}
 use Rattle.patch.specs.declared.patch.Patch.{Patch}
 use Rattle.patch.specs.declared.patch.Parameters.{Parameters}
 use Rattle.walk.specs.Lent.{placed, turnedOf, joinedOf, ownRow, rowsOf}

@@ -7,13 +7,13 @@ use lib.ListN.{length}
 use Rattle.loops.specs.Loop.{pick, Flow, on, out, searched}
 use Rattle.number.specs.Operators.{bits}
 use Rattle.geometry.specs.declared.point.Point3D.{Point3D}
-use Rattle.vector.specs.declared.Vector3D.{Vector3D}
-use Rattle.tolerance.specs.declared.Tolerance.{Tolerance}
-use Rattle.vector.specs.Vector.{scaleOf}
+use Rattle.geometry.specs.declared.vector.Vector3D.{Vector3D}
+use Rattle.geometry.specs.declared.tolerance.Tolerance.{Tolerance}
+use Rattle.geometry.specs.Vector.{scaleOf}
 use Rattle.patch.specs.declared.patch.Patch.{Patch}
 use Rattle.patch.specs.declared.patch.Parameters.{Parameters}
 use Rattle.patch.specs.Located.{pointA}
-use Rattle.stride.specs.declared.attempt.Walker.{Walker}
+use Rattle.step.specs.declared.attempt.Walker.{Walker}
 use Rattle.step.specs.Closing.{firstStride}
 use Rattle.step.specs.Step.{stepOf}
 use Rattle.step.specs.declared.step.Stepped.{Stepped}

@@ -5,8 +5,8 @@ use lib.Ieee.{Float, neg}
 use lib.ListN.{length}
 use Rattle.loops.specs.Loop.{pick}
 use Rattle.number.specs.Helpers.{one}
-use Rattle.vector.specs.declared.Vector3D.{Vector3D}
-use Rattle.tolerance.specs.declared.Tolerance.{Tolerance}
+use Rattle.geometry.specs.declared.vector.Vector3D.{Vector3D}
+use Rattle.geometry.specs.declared.tolerance.Tolerance.{Tolerance}
 use Rattle.patch.specs.declared.patch.Patch.{Patch}
 use Rattle.patch.specs.declared.patch.Parameters.{Parameters}
 use Rattle.walk.specs.Half.{Walked, halfOf, inOrder}

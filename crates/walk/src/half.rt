@@ -2,14 +2,14 @@
 use crate::lent::put;
 use crate::lent::row_for;
 use geometry::Point3D;
+use geometry::Tolerance;
+use geometry::Vector3D;
 use patch::Parameters;
 use patch::Patch;
 use step::Stepped;
+use step::Walker;
 use step::first_stride;
 use step::step::step;
-use stride::Walker;
-use tolerance::Tolerance;
-use vector::Vector3D;
 ghost use mathlib.Core.Path.{_≡_};
 ghost use Prim.Native.Nat.{_*_, _-_, _≤_};
 ghost use lib.ListN.{length, take};

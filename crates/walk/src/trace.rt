@@ -2,6 +2,7 @@
 use crate::answer::Traced;
 use crate::lent::clear;
 use crate::line::line;
+use geometry::Tolerance;
 use groups::WIDTH;
 use marching::Direction;
 use marching::tangent::tangent;
@@ -11,7 +12,6 @@ use patch::Fitness;
 use patch::Parameters;
 use patch::Patch;
 use refusal::Refusal;
-use tolerance::Tolerance;
 ghost use mathlib.Core.Path.{_≡_};
 ghost use Prim.Native.Nat.{_≤_};
 ghost use lib.ListN.{length};

@@ -1,6 +1,6 @@
 -- `replay_job::one` is safe and ends: the line's bytes are there to be lent on. Assumes nothing.
 use borrow.Author.Needs.{needs}
-use Rattle.line.proofs.Text.{line-holds, line-count}
+use Rattle.answer.proofs.Text.{line-holds, line-count}
 use Rattle.replay_job.proofs.one.Statement.{statement}
 use Rattle.replay_job.proofs.one.Tie as tie
 

@@ -1,6 +1,6 @@
 -- `tracer::main` is safe and ends: the line's bytes are there to be lent on. Assumes nothing.
 use borrow.Author.Needs.{needs}
-use Rattle.line.proofs.Text.{line-holds, line-count}
+use Rattle.answer.proofs.Text.{line-holds, line-count}
 use Rattle.tracer.proofs.main.Statement.{statement}
 use Rattle.tracer.proofs.main.Tie as tie
 

@@ -2,8 +2,8 @@
 use borrow.Author.Needs.{needs}
 use mathlib.Core.Path.{_≡_, refl, sym}
 use Rattle.sqrt.specs.Sqrt.{sqrtOf}
-use Rattle.vector.specs.declared.Vector3D.{Vector3D}
-use Rattle.vector.specs.Vector.{dotOf, crossOf, squareMagnitudeOf, magnitudeOf}
+use Rattle.geometry.specs.declared.vector.Vector3D.{Vector3D}
+use Rattle.geometry.specs.Vector.{dotOf, crossOf, squareMagnitudeOf, magnitudeOf}
 use Rattle.marching.specs.Tangent.{unitCross}
 use Rattle.marching.proofs.tangent.unit_cross.Statement.{statement}
 use Rattle.marching.proofs.tangent.unit_cross.Tie as tie

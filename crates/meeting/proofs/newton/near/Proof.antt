@@ -5,7 +5,7 @@ use lib.Ieee.{Float}
 use borrow.Author.Needs.{needs}
 use Rattle.number.specs.Operators.{_≤?_}
 use Rattle.number.specs.Helpers.{absOf}
-use Rattle.vector.specs.Vector.{magnitudeOf}
+use Rattle.geometry.specs.Vector.{magnitudeOf}
 use Rattle.patch.specs.declared.patch.Patch.{Patch}
 use Rattle.patch.specs.Patch.{insideOf}
 use Rattle.meeting.specs.declared.step.Residual.{Residual}

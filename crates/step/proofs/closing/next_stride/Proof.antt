@@ -7,7 +7,7 @@ use lib.Ieee.{Float, isNan, ofBits}
 use Rattle.number.specs.Operators.{_<?_, _≤?_}
 use Rattle.number.specs.Helpers.{minOf}
 use Rattle.number.proofs.Order.{lt→le}
-use Rattle.stride.specs.Shorten.{longestStride}
+use Rattle.step.specs.Shorten.{longestStride}
 use Rattle.step.specs.Closing.{nextStride}
 use Rattle.step.proofs.closing.next_stride.Statement.{statement}
 use Rattle.step.proofs.closing.next_stride.Tie as tie

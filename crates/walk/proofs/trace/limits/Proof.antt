@@ -8,8 +8,8 @@ use borrow.Author.Needs.{needs}
 use borrow.Author.Tests.{le-leb, lt-leb, not-false, not-true}
 use Rattle.groups.specs.Groups.{width, holdsOf}
 use Rattle.refusal.specs.declared.Refusal.the-variants as refusal
-use Rattle.tolerance.specs.declared.Tolerance.{Tolerance}
-use Rattle.tolerance.specs.Tolerance.{toleranceFit}
+use Rattle.geometry.specs.declared.tolerance.Tolerance.{Tolerance}
+use Rattle.geometry.specs.Tolerance.{toleranceFit}
 use Rattle.patch.specs.declared.patch.Parameters.{Parameters}
 use Rattle.patch.specs.declared.patch.Fitness.the-variants.{Fit, Unfit}
 use Rattle.walk.specs.Trace.{guessFinite, limitsOf}

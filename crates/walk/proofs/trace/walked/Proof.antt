@@ -6,8 +6,8 @@ use denote.Ref.{now}
 use lib.ListN.{replicate}
 use Rattle.groups.specs.Row.{zero}
 use Rattle.refusal.specs.declared.Refusal.the-variants as refusal
-use Rattle.vector.specs.declared.Vector3D.{Vector3D}
-use Rattle.tolerance.specs.declared.Tolerance.{Tolerance}
+use Rattle.geometry.specs.declared.vector.Vector3D.{Vector3D}
+use Rattle.geometry.specs.declared.tolerance.Tolerance.{Tolerance}
 use Rattle.patch.specs.declared.patch.Patch.{Patch}
 use Rattle.patch.specs.declared.patch.Parameters.{Parameters}
 use Rattle.meeting.specs.declared.newton.Met.the-variants as met

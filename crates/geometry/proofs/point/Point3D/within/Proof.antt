@@ -1,7 +1,7 @@
 -- `geometry::point::Point3D::within` meets its contract, by those of what it calls. Assumes nothing.
 use borrow.Author.Needs.{needs}
 use Rattle.geometry.specs.Point.{distanceOf, fromOf}
-use Rattle.vector.specs.Vector.{magnitudeOf, squareMagnitudeOf}
+use Rattle.geometry.specs.Vector.{magnitudeOf, squareMagnitudeOf}
 use Rattle.geometry.proofs.point.Point3D.within.Statement.{statement}
 use Rattle.geometry.proofs.point.Point3D.within.Tie as tie
 

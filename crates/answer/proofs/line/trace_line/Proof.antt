@@ -1,0 +1,69 @@
+-- `line::trace_line` meets its contract: each way out has its tests, and what it calls its own. Assumes nothing.
+use borrow.Author.Needs.{needs}
+use mathlib.Core.List.{_++_}
+use Rattle.answer.specs.Line.{decimalOf, traceWord, space, newline}
+use Rattle.answer.proofs.Text.{text-first, text-next, trace-line-is}
+use Rattle.answer.proofs.line.trace_line.Statement.{statement}
+use Rattle.answer.proofs.line.trace_line.Tie as tie
+
+slice-aggregate-append : tie.Need-slice-aggregate-append
+slice-aggregate-append c = search needs
+
+append-requires : tie.Need-append-requires
+append-requires c κs = search needs
+
+append-number-requires : tie.Need-append-number-requires
+append-number-requires c κs = search needs
+
+slice-aggregate-append-2 : tie.Need-slice-aggregate-append-2
+slice-aggregate-append-2 c = search needs
+
+append-requires-2 : tie.Need-append-requires-2
+append-requires-2 c κs = search needs
+
+append-number-requires-2 : tie.Need-append-number-requires-2
+append-number-requires-2 c κs = search needs
+
+slice-aggregate-append-3 : tie.Need-slice-aggregate-append-3
+slice-aggregate-append-3 c = search needs
+
+append-requires-3 : tie.Need-append-requires-3
+append-requires-3 c κs = search needs
+
+append-number-requires-3 : tie.Need-append-number-requires-3
+append-number-requires-3 c κs = search needs
+
+slice-aggregate-append-4 : tie.Need-slice-aggregate-append-4
+slice-aggregate-append-4 c = search needs
+
+append-requires-4 : tie.Need-append-requires-4
+append-requires-4 c κs = search needs
+
+returns : tie.Need-returns
+returns c =
+    let a = c .before .before .before .before .before .before .before .before .before .before .before .before .before .before .before .before .before .before .args in
+    let t1 = text-first traceWord _ _ _ (c .before .before .before .before .before .before .before .before .before .before .before .before .before .before .before .append .ensures .0) (c .before .before .before .before .before .before .before .before .before .before .before .before .before .before .before .append .ensures .1) in
+    let t2 = text-next traceWord (decimalOf (a .count)) _ _ _ _ _ t1 (c .before .before .before .before .before .before .before .before .before .before .before .before .before .append-number .ensures .0) (c .before .before .before .before .before .before .before .before .before .before .before .before .before .append-number .ensures .1) in
+    let t3 = text-next (traceWord ++ decimalOf (a .count)) space _ _ _ _ _ t2 (c .before .before .before .before .before .before .before .before .before .before .append2 .ensures .0) (c .before .before .before .before .before .before .before .before .before .before .append2 .ensures .1) in
+    let t4 = text-next (traceWord ++ decimalOf (a .count) ++ space) (decimalOf (a .start)) _ _ _ _ _ t3 (c .before .before .before .before .before .before .before .before .append-number2 .ensures .0) (c .before .before .before .before .before .before .before .before .append-number2 .ensures .1) in
+    let t5 = text-next (traceWord ++ decimalOf (a .count) ++ space ++ decimalOf (a .start)) space _ _ _ _ _ t4 (c .before .before .before .before .before .append3 .ensures .0) (c .before .before .before .before .before .append3 .ensures .1) in
+    let t6 = text-next (traceWord ++ decimalOf (a .count) ++ space ++ decimalOf (a .start) ++ space) (decimalOf (a .code)) _ _ _ _ _ t5 (c .before .before .before .append-number3 .ensures .0) (c .before .before .before .append-number3 .ensures .1) in
+    let t7 = text-next (traceWord ++ decimalOf (a .count) ++ space ++ decimalOf (a .start) ++ space ++ decimalOf (a .code)) newline _ _ _ _ _ t6 (c .append4 .ensures .0) (c .append4 .ensures .1) in
+    rw (← trace-line-is (a .count) (a .start) (a .code)) t7
+
+pub trace-line-spec : {M : Type 1} → statement M
+trace-line-spec =
+    tie.close
+    (tie.spec
+    slice-aggregate-append
+    append-requires
+    append-number-requires
+    slice-aggregate-append-2
+    append-requires-2
+    append-number-requires-2
+    slice-aggregate-append-3
+    append-requires-3
+    append-number-requires-3
+    slice-aggregate-append-4
+    append-requires-4
+    returns)

@@ -1,0 +1,12 @@
+-- `charted::square_plane` meets its contract. Assumes nothing.
+use mathlib.Core.Path.{refl}
+use lib.Ieee.{ofBits, neg}
+use Rattle.examples.proofs.square_plane.Statement.{statement}
+use Rattle.examples.proofs.square_plane.Tie as tie
+
+returns : tie.Need-returns
+unfolding ofBits neg
+returns c = refl
+
+pub square-plane-spec : {M : Type 1} → statement M
+square-plane-spec = tie.close (tie.spec returns)

@@ -1,0 +1,12 @@
+-- `vector::Vector3D::dot` meets its contract. Assumes nothing.
+use mathlib.Core.Path.{refl}
+use Rattle.geometry.specs.Vector.{dotOf}
+use Rattle.geometry.proofs.vector.Vector3D.dot.Statement.{statement}
+use Rattle.geometry.proofs.vector.Vector3D.dot.Tie as tie
+
+returns : tie.Need-returns
+unfolding dotOf
+returns c = refl
+
+pub dot-spec : {M : Type 1} → statement M
+dot-spec = tie.close (tie.spec returns)

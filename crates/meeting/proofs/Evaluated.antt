@@ -1,0 +1,54 @@
+-- The definitions compute: two equal planes meet at once, and planes one apart do not meet. Assumes nothing.
+use mathlib.Core.Path.{_≡_, refl}
+use mathlib.Core.Bool.{false}
+use lib.Ieee as Ieee
+use lib.Ieee.{Float}
+use Rattle.number.specs.Operators.{bits}
+use Rattle.sqrt.specs.Sqrt.{sqrtOf}
+use Rattle.geometry.specs.Tolerance.{defaultTolerance}
+use Rattle.geometry.specs.Vector.{vectorOf, zeroVector, dotOf, crossOf, squareMagnitudeOf, magnitudeOf, negOf, scaleOf}
+use Rattle.geometry.specs.Point.{pointOf, fromOf, addVectorOf}
+use Rattle.geometry.specs.Frame.{pointAtOf}
+use Rattle.analytic.specs.declared.surface.Surface.the-variants.{Plane}
+use Rattle.analytic.specs.Analytic.{planeD0, planeDerivatives}
+use Rattle.analytic.specs.Surface.{evalPoint, evalD1}
+use Rattle.patch.specs.declared.patch.Patch.{Patch}
+use Rattle.patch.specs.declared.patch.Window.{Window}
+use Rattle.patch.specs.declared.patch.Parameters.{Parameters}
+use Rattle.patch.specs.Patch.{insideOf, windowHolds, boundedOf, withinBounds}
+use Rattle.solve.proofs.Computing as solve
+use Rattle.meeting.specs.declared.newton.Met.the-variants.{At, Nothing}
+use Rattle.meeting.specs.Step.{offsetOf, residualOf, columnsOf, dot4Of, normalMatrix, freeStep, newtonStep, shiftedOf}
+use Rattle.meeting.specs.Newton.{nearOf, trialsOf, lastTest, roundOf, newtonOf, meetOf}
+
+-- opens what an evaluation of a meeting of planes needs
+unfoldable pub computing : Unit {0}
+unfolding meetOf newtonOf roundOf lastTest trialsOf nearOf shiftedOf newtonStep freeStep normalMatrix dot4Of columnsOf residualOf offsetOf withinBounds boundedOf windowHolds insideOf evalPoint evalD1 planeD0 planeDerivatives pointAtOf fromOf addVectorOf pointOf scaleOf negOf magnitudeOf squareMagnitudeOf crossOf dotOf vectorOf zeroVector defaultTolerance sqrtOf solve.computing Ieee.neg
+computing = tt
+
+abbrev window : Window
+window = record { low = bits 0xbff0_0000_0000_0000; high = bits 0x3ff0_0000_0000_0000; turn = false }
+
+-- the unit-frame plane moved up by z, windows -1 to 1, no marks
+abbrev pub planeAt : Float → Patch
+planeAt z = record {
+  surface = Plane (record {
+    origin = pointOf (bits 0) (bits 0) z;
+    x = vectorOf (bits 0x3ff0_0000_0000_0000) (bits 0) (bits 0);
+    y = vectorOf (bits 0) (bits 0x3ff0_0000_0000_0000) (bits 0);
+    z = vectorOf (bits 0) (bits 0) (bits 0x3ff0_0000_0000_0000);
+  });
+  u = window;
+  v = window;
+}
+
+abbrev pub origin : Parameters
+origin = record { u1 = bits 0; v1 = bits 0; u2 = bits 0; v2 = bits 0 }
+
+pub equal-planes-meet : meetOf (planeAt (bits 0)) (planeAt (bits 0)) origin defaultTolerance ≡ At origin
+unfolding computing
+equal-planes-meet = refl
+
+pub planes-apart-do-not : meetOf (planeAt (bits 0)) (planeAt (bits 0x3ff0_0000_0000_0000)) origin defaultTolerance ≡ Nothing
+unfolding computing
+planes-apart-do-not = refl

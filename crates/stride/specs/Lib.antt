@@ -1,2 +1,0 @@
-pub mod Attempt
-pub mod Shorten
