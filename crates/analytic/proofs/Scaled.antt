@@ -1,4 +1,4 @@
--- The first derivatives with `scale`, a vector times a number, where the Rust has a number times a vector. Assumes nothing.
+-- The first derivatives with `scale`, a vector times a number, where the Rust has a number times a vector.
 use mathlib.Core.Path.{_≡_}
 use lib.Ieee.{Float, neg}
 use Rattle.number.specs.Operators.{_⊗_}

@@ -1,4 +1,4 @@
--- The definitions of the line at values that can be read off: `trace 5 2 0`, `trace 4001 2000 1`, `refused 19`. By evaluation. Assumes nothing.
+-- The definitions of the line at values that can be read off: `trace 5 2 0`, `trace 4001 2000 1`, `refused 19`. By evaluation.
 use mathlib.Core.Path.{_≡_, refl}
 use mathlib.Core.List.{[], _∷_}
 use Rattle.answer.specs.Line.{spell, decimalOf, traceLine, refusedLine}

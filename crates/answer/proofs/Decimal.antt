@@ -1,4 +1,4 @@
--- The digits of a number stand for it. Assumes nothing.
+-- The digits of a number stand for it.
 use mathlib.Core.Path.{_≡_, ap, _∙_}
 use mathlib.Core.List.{List, [], _∷_}
 use Prim.Native.Nat.{ℕ, zero, suc, _+_, _*_, _-_, _/_, _%_, _^_, _≤_, _<_}
@@ -6,7 +6,7 @@ use native.Mathlib.Nat.{pow-suc}
 use native.Mathlib.Omega.{arith}
 use borrow.Author.Tests.{ltb-true, ltb-false}
 use lib.Dec.{ltb}
-use Rattle.loops.proofs.Some.{cases}
+use Rattle.loops.proofs.Any.{cases}
 use Rattle.answer.specs.Line.{digitOf, spell, decimalOf, valueOf}
 use Rattle.answer.proofs.Text.{spell-more, spell-last}
 

@@ -1,4 +1,4 @@
--- Laws of the answer's text: its digits, and texts laid one behind the other. Assumes nothing.
+-- Laws of the answer's text: its digits, and texts laid one behind the other.
 use mathlib.Core.Path.{_≡_, sym, ap, subst, _∙_}
 use mathlib.Core.List.{List, [], _∷_, _++_, append-nil, append-assoc}
 use Prim.Native.Nat.{ℕ, suc, _+_, _-_, _/_, _%_, _≤_, _<_}

@@ -1,4 +1,4 @@
--- The job program's line tells of a trace only where that passes. Assumes nothing.
+-- The job program's line tells of a trace only where that passes.
 use mathlib.Core.Path.{_≡_, refl, sym}
 use mathlib.Core.List.{List}
 use Prim.Native.Nat.{ℕ}

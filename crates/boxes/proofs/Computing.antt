@@ -1,6 +1,6 @@
--- For evaluation: what has to unfold so that the crossing's definitions compute on given numbers. Assumes nothing.
+-- For evaluation: what has to unfold so that the crossing's definitions compute on given numbers.
 use lib.Ieee as Ieee
-use Rattle.loops.specs.Loop.{turns, exits}
+use Rattle.loops.specs.Loop.{iterated, exits}
 use Rattle.number.specs.Helpers.{absOf, maxOf, minOf, numberFit}
 use Rattle.groups.specs.Groups.{holdsOf}
 use Rattle.geometry.specs.Tolerance.{toleranceFit}
@@ -13,5 +13,5 @@ use Rattle.boxes.specs.Crossing.{sidesFit, boxFit, someUnfit, crossingOf
 
 -- an example says `unfolding computing` and `refl`
 unfoldable pub computing : Unit {0}
-unfolding crossingOf numberFit pointFit sidesFit boxFit someUnfit crossesOf someRun runCrosses someSegment grownOf segmentMeetsBox clipOf boundsOf coverOf pointBox boxesApart pointOf toleranceFit holdsOf absOf maxOf minOf turns exits Ieee.isNan Ieee.ofBits Ieee.add Ieee.sub Ieee.mul Ieee.div Ieee.lt Ieee.le Ieee.eq
+unfolding crossingOf numberFit pointFit sidesFit boxFit someUnfit crossesOf someRun runCrosses someSegment grownOf segmentMeetsBox clipOf boundsOf coverOf pointBox boxesApart pointOf toleranceFit holdsOf absOf maxOf minOf iterated exits Ieee.isNan Ieee.ofBits Ieee.add Ieee.sub Ieee.mul Ieee.div Ieee.lt Ieee.le Ieee.eq
 computing = tt

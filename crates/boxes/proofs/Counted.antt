@@ -1,4 +1,4 @@
--- The crossing says yes exactly when nothing refuses and some segment counts, and no exactly when nothing refuses and none does. Assumes nothing.
+-- The crossing says yes exactly when nothing refuses and some segment counts, and no exactly when nothing refuses and none does.
 use mathlib.Core.Path.{_≡_, refl, ap, sym, _∙_}
 use mathlib.Core.Bool.{Bool, true, false, not}
 use mathlib.Core.Logic.{_↔_}
@@ -9,7 +9,7 @@ use lib.Dec.{ltb}
 use lib.Ieee.{Float}
 use borrow.Author.Tests.{ltb-true, ltb-false, le-ltb, le-leb, not-false}
 use Rattle.loops.specs.Loop.{pick}
-use Rattle.loops.proofs.Some.{some-found, some-at, some-none, some-fails}
+use Rattle.loops.proofs.Any.{any-found, any-at, any-none, any-fails}
 use Rattle.groups.specs.Groups.{width, fromGroup, holdsOf}
 use Rattle.groups.proofs.Groups.{holds-length}
 use Rattle.groups.proofs.Rows.{point-from}
@@ -19,7 +19,7 @@ use Rattle.refusal.specs.declared.Refusal.the-variants as refusal
 use Rattle.boxes.specs.declared.boxtree.Aabb.{Aabb}
 use Rattle.boxes.specs.Box.{boxesApart}
 use Rattle.boxes.specs.Bounds.{boundsOf}
-use Rattle.boxes.specs.Crosses.{segmentMeets, someSegment, runCrosses, runsOf, firstOf, runPoints, runAt, someRun, grownOf, crossesOf}
+use Rattle.boxes.specs.Crosses.{segmentMeets, someSegment, runCrosses, runsOf, runStart, runPoints, runAt, someRun, grownOf, crossesOf}
 use Rattle.boxes.specs.declared.crossing.Crossed.{Crossed}
 use Rattle.boxes.specs.declared.crossing.Crossed.the-variants.{Yes, No, Refused}
 use Rattle.boxes.specs.Crossing.{boxFit, unfitAt, someUnfit, refusalOf, crossedOf, crossingOf}
@@ -58,17 +58,17 @@ module _ (l : List Float) (count : ℕ) (b : Aabb) (confusion : Float) where
   counts-found y =
       let g = grownOf b confusion in
       let w = past (boxesApart (boundsOf l count) g) y in
-      let r = some-found (runAt l count g) 0 (runsOf count) (w .1) in
+      let r = any-found (runAt l count g) 0 (runsOf count) (w .1) in
       let q = past (boxesApart (runBounds l count (r .0)) g) (r .3) in
-      let k = some-found (segmentMeets (fromGroup width (firstOf (r .0)) l) g) 0 (runPoints count (firstOf (r .0)) - 1) (q .1) in
-      let s = run-below count (firstOf (r .0)) (k .0) (k .2) in
+      let k = any-found (segmentMeets (fromGroup width (runStart (r .0)) l) g) 0 (runPoints count (runStart (r .0)) - 1) (q .1) in
+      let s = run-below count (runStart (r .0)) (k .0) (k .2) in
       let n : (16 * r .0 + k .0) / 16 ≡ r .0 = omega (arith, s .0) in (
         16 * r .0 + k .0,
         record {
           segment = s .1;
           whole = w .0;
           run = rw n (q .0);
-          meets = sym (segment-part l g (firstOf (r .0)) (k .0)) ∙ k .3;
+          meets = sym (segment-part l g (runStart (r .0)) (k .0)) ∙ k .3;
         },
       )
 
@@ -79,10 +79,10 @@ module _ (l : List Float) (count : ℕ) (b : Aabb) (confusion : Float) where
       let g = grownOf b confusion in
       let e : 16 * (i / 16) + i % 16 ≡ i = omega arith in
       let s : segmentMeets l g (16 * (i / 16) + i % 16) ≡ true = rw e (c .meets) in
-      let k = some-at (segmentMeets (fromGroup width (firstOf (i / 16)) l) g) 0 (runPoints count (firstOf (i / 16)) - 1) (i % 16) (omega arith)
-      (run-reaches count (firstOf (i / 16)) (i % 16) (omega arith) (omega (arith, c .segment)))
-      (segment-part l g (firstOf (i / 16)) (i % 16) ∙ s) in
-      let r = some-at (runAt l count g) 0 (runsOf count) (i / 16) (omega arith) (omega (arith, c .segment)) (rw (c .run) k) in
+      let k = any-at (segmentMeets (fromGroup width (runStart (i / 16)) l) g) 0 (runPoints count (runStart (i / 16)) - 1) (i % 16) (omega arith)
+      (run-reaches count (runStart (i / 16)) (i % 16) (omega arith) (omega (arith, c .segment)))
+      (segment-part l g (runStart (i / 16)) (i % 16) ∙ s) in
+      let r = any-at (runAt l count g) 0 (runsOf count) (i / 16) (omega arith) (omega (arith, c .segment)) (rw (c .run) k) in
       rw (c .whole) r
 
   -- `crosses` is 01's sentence: yes exactly when some segment counts
@@ -120,7 +120,7 @@ module _ (tol : Tolerance) (l : List Float) (count : ℕ) (b : Aabb) where
   pub fit-answer : Fit tol l count b → crossingOf tol l count b ≡ pick (crossesOf l count b (tol .confusion)) Yes No
   unfolding crossingOf someUnfit holdsOf
   fit-answer f =
-      let n = some-none (unfitAt l) 0 count (λ i z h. ap not (f .coordinates i h)) in
+      let n = any-none (unfitAt l) 0 count (λ i z h. ap not (f .coordinates i h)) in
       rw (f .tolerance, le-leb _ _ (f .lent), le-ltb _ _ (f .least), le-ltb _ _ (f .most), n, f .corners)
 
   pub fit-of : refusalOf (crossingOf tol l count b) ≡ 0 → Fit tol l count b
@@ -132,7 +132,7 @@ module _ (tol : Tolerance) (l : List Float) (count : ℕ) (b : Aabb) where
         lent = holds-length width l count (s .1);
         least = ltb-false _ _ (s .2);
         most = ltb-false _ _ (s .3);
-        coordinates = λ i h. not-false _ (some-fails (unfitAt l) 0 count (s .4) i (omega arith) h);
+        coordinates = λ i h. not-false _ (any-fails (unfitAt l) 0 count (s .4) i (omega arith) h);
         corners = s .5;
       }
 

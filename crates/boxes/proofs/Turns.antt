@@ -1,4 +1,4 @@
--- What a turn of each loop computes is what the definition tests there. Assumes nothing.
+-- What a turn of each loop computes is what the definition tests there.
 use mathlib.Core.Path.{_≡_, refl, ap, sym, _∙_}
 use mathlib.Core.Bool.{Bool, true, false, not}
 use mathlib.Core.List.{List}
@@ -17,7 +17,7 @@ use Rattle.geometry.specs.Point.{pointFit}
 use Rattle.boxes.specs.declared.boxtree.Aabb.{Aabb}
 use Rattle.boxes.specs.Bounds.{coverOf, coverAt}
 use Rattle.boxes.specs.Segment.{segmentMeetsBox}
-use Rattle.boxes.specs.Crosses.{segmentMeets, firstOf, runCrosses, runPoints, runAt}
+use Rattle.boxes.specs.Crosses.{segmentMeets, runStart, runCrosses, runPoints, runAt}
 use Rattle.boxes.specs.Crossing.{unfitAt}
 
 pub unfit-turn : (l : List Float) (i : ℕ) {p : Point3D} {t : Bool} → p ≡ pointAt l i → t ≡ pointFit p → unfitAt l i ≡ not t
@@ -30,9 +30,9 @@ segment-turn l b i ep eq et = rw (← ep, ← eq, ← et)
 pub cover-turn : (l : List Float) (i : ℕ) (b : Aabb) {c : Aabb} {p : Point3D} → p ≡ pointAt l i → c ≡ coverOf b p → c ≡ coverAt l i b
 cover-turn l i b ep ec = rw (← ep) ec
 
-pub run-turn : (l : List Float) (count : ℕ) (b : Aabb) (r : ℕ) {n : ℕ} {t : Bool} → n ≡ runPoints count (firstOf r)
-    → t ≡ runCrosses (take (length l - width * firstOf r) (drop (width * firstOf r) l)) n b → runAt l count b r ≡ t
-run-turn l count b r {n} en et = rw (← en) (sym (et ∙ ap (λ (m : List Float). runCrosses m n b) (part-from (width * firstOf r) l)))
+pub run-turn : (l : List Float) (count : ℕ) (b : Aabb) (r : ℕ) {n : ℕ} {t : Bool} → n ≡ runPoints count (runStart r)
+    → t ≡ runCrosses (take (length l - width * runStart r) (drop (width * runStart r) l)) n b → runAt l count b r ≡ t
+run-turn l count b r {n} en et = rw (← en) (sym (et ∙ ap (λ (m : List Float). runCrosses m n b) (part-from (width * runStart r) l)))
 
 -- a run has a point, and no more than are left
 run-least : (n : ℕ) → 0 < n → (0 < pick (ltb 17 n) 17 n) × (pick (ltb 17 n) 17 n ≤ n)
@@ -43,11 +43,11 @@ run-least n h = go (ltb 17 n) refl
     go false e = (h, omega arith)
 
 -- so the part that is handed on holds them
-pub run-holds : (l : List Float) (count r : ℕ) {n : ℕ} → firstOf r < count → width * count ≤ length l → n ≡ runPoints count (firstOf r)
-    → (0 < n) × (width * n ≤ length (take (length l - width * firstOf r) (drop (width * firstOf r) l)))
+pub run-holds : (l : List Float) (count r : ℕ) {n : ℕ} → runStart r < count → width * count ≤ length l → n ≡ runPoints count (runStart r)
+    → (0 < n) × (width * n ≤ length (take (length l - width * runStart r) (drop (width * runStart r) l)))
 run-holds l count r {n} h f en =
-    let k = run-least (count - firstOf r) (omega arith) in
-    let d = length-drop (width * firstOf r) l in
+    let k = run-least (count - runStart r) (omega arith) in
+    let d = length-drop (width * runStart r) l in
     let p : 0 < n = rw en (k .0) in
-    let q : n ≤ count - firstOf r = rw en (k .1) in
-    (p, rw (part-from (width * firstOf r) l) (omega arith))
+    let q : n ≤ count - runStart r = rw en (k .1) in
+    (p, rw (part-from (width * runStart r) l) (omega arith))

@@ -1,4 +1,4 @@
--- "Dropping the run boxes: the rounded segment test can accept what a box keeps out." Two traces on which it does. Assumes nothing.
+-- "Dropping the run boxes: the rounded segment test can accept what a box keeps out." Two traces on which it does.
 use mathlib.Core.Path.{_≡_, refl}
 use mathlib.Core.Bool.{true, false}
 use mathlib.Core.List.{List, _∷_, _++_}

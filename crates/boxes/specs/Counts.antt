@@ -14,12 +14,12 @@ use Rattle.boxes.specs.declared.boxtree.Aabb.{Aabb}
 use Rattle.boxes.specs.Box.{boxesApart}
 use Rattle.boxes.specs.Bounds.{boundsOf}
 use Rattle.boxes.specs.Segment.{segmentMeetsBox}
-use Rattle.boxes.specs.Crosses.{runLength, firstOf, runPoints}
+use Rattle.boxes.specs.Crosses.{runLength, runStart, runPoints}
 use Rattle.boxes.specs.Crossing.{boxFit}
 
 -- the box of run r: of its points, from its first on
 abbrev pub runBounds : List Float → ℕ → ℕ → Aabb
-runBounds l count r = boundsOf (fromGroup width (firstOf r) l) (runPoints count (firstOf r))
+runBounds l count r = boundsOf (fromGroup width (runStart r) l) (runPoints count (runStart r))
 
 -- segment i of the trace counts, the box being grown already: "only if the whole trace's box and its run's box are not apart from the
 -- grown box and `segment_meets_box` holds"

@@ -5,7 +5,7 @@ use Prim.Native.Nat.{ℕ, _+_, _-_, _*_, _/_}
 use lib.Dec.{ltb}
 use lib.Ieee.{Float}
 use Rattle.loops.specs.Loop.{pick}
-use Rattle.loops.specs.Some.{some}
+use Rattle.loops.specs.Any.{anyIn}
 use Rattle.number.specs.Operators.{bits, _⊕_, _⊖_, _⊗_}
 use Rattle.groups.specs.Groups.{width, fromGroup}
 use Rattle.groups.specs.Row.{pointAt}
@@ -32,7 +32,7 @@ segmentMeets l b i = segmentMeetsBox (pointAt l i) (pointAt l (i + 1)) b
 
 -- whether some segment of the points meets the box
 unfoldable pub someSegment : List Float → ℕ → Aabb → Bool
-someSegment l count b = some (segmentMeets l b) 0 (count - 1)
+someSegment l count b = anyIn (segmentMeets l b) 0 (count - 1)
 
 -- a part whose box is apart holds no segment that counts
 unfoldable pub runCrosses : List Float → ℕ → Aabb → Bool
@@ -43,8 +43,8 @@ abbrev pub runLength : ℕ
 runLength = 16
 
 -- the first point of run r
-abbrev pub firstOf : ℕ → ℕ
-firstOf r = runLength * r
+abbrev pub runStart : ℕ → ℕ
+runStart r = runLength * r
 
 -- how many runs the segments of `count` points make, the last maybe not full
 abbrev pub runsOf : ℕ → ℕ
@@ -56,11 +56,11 @@ runPoints count first = pick (ltb (runLength + 1) (count - first)) (runLength + 
 
 -- "each run is handed on as a part of the trace from its first point"
 abbrev pub runAt : List Float → ℕ → Aabb → ℕ → Bool
-runAt l count b r = runCrosses (fromGroup width (firstOf r) l) (runPoints count (firstOf r)) b
+runAt l count b r = runCrosses (fromGroup width (runStart r) l) (runPoints count (runStart r)) b
 
 -- whether some run crosses the box
 unfoldable pub someRun : List Float → ℕ → Aabb → Bool
-someRun l count b = some (runAt l count b) 0 (runsOf count)
+someRun l count b = anyIn (runAt l count b) 0 (runsOf count)
 
 -- "only if the whole trace's box and its run's box are not apart from the grown box and `segment_meets_box` holds"
 unfoldable pub crossesOf : List Float → ℕ → Aabb → Float → Bool

@@ -5,7 +5,7 @@ use Prim.Native.Nat.{ℕ}
 use lib.Dec.{ltb}
 use lib.Ieee.{Float}
 use Rattle.loops.specs.Loop.{pick}
-use Rattle.loops.specs.Some.{some}
+use Rattle.loops.specs.Any.{anyIn}
 use Rattle.number.specs.Operators.{_<?_}
 use Rattle.groups.specs.Groups.{width, holdsOf}
 use Rattle.groups.specs.Row.{pointAt}
@@ -36,7 +36,7 @@ unfitAt l i = not (pointFit (pointAt l i))
 
 -- whether 18 stops one of the points
 unfoldable pub someUnfit : List Float → ℕ → Bool
-someUnfit l count = some (unfitAt l) 0 count
+someUnfit l count = anyIn (unfitAt l) 0 count
 
 -- the paper's number for each case (0: not refused)
 abbrev pub refusalOf : Crossed → ℕ

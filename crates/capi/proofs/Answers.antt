@@ -1,4 +1,4 @@
--- What the point's and the crossing's words say, from what the calls below them answer. Assumes nothing.
+-- What the point's and the crossing's words say, from what the calls below them answer.
 use mathlib.Core.Path.{_≡_}
 use mathlib.Core.List.{List}
 use Prim.Native.Nat.{ℕ, _≤_}

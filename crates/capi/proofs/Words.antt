@@ -1,4 +1,4 @@
--- The words hold their parts apart, and 0 means that nothing is refused. Assumes nothing.
+-- The words hold their parts apart, and 0 means that nothing is refused.
 use mathlib.Core.Path.{_≡_, refl, sym, ap, _∙_, subst}
 use mathlib.Core.List.{List}
 use Prim.Native.Nat.{ℕ, _+_, _*_, _/_, _%_, _^_, _≤_, _<_}

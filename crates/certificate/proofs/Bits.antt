@@ -1,4 +1,4 @@
--- Equal in bits is equal as values of the logic, for numbers of binary64; a point worked out afresh is made of such. Assumes nothing.
+-- Equal in bits is equal as values of the logic, for numbers of binary64; a point worked out afresh is made of such.
 use mathlib.Core.Path.{_≡_, sym, ap, _∙_, subst}
 use mathlib.Core.Bool.{Bool, _&&_}
 use mathlib.Core.List.{List}

@@ -1,4 +1,4 @@
--- The index that a refusal of the check names is below the count claimed, and so within 01's 4001 points. Assumes nothing.
+-- The index that a refusal of the check names is below the count claimed, and so within 01's 4001 points.
 use mathlib.Core.Path.{_≡_, refl, sym, ap, _∙_}
 use mathlib.Core.Bool.{Bool, true, false}
 use mathlib.Core.List.{List}
@@ -21,7 +21,7 @@ use Rattle.patch.specs.Patch.{numbersFit, sizesFit, windowFit, markFit, uIsAngl
 use Rattle.certificate.specs.declared.check.Checked.{Checked}
 use Rattle.certificate.specs.declared.check.Checked.the-variants.{Passed, Refused}
 use Rattle.certificate.specs.Passes.{parametersAt}
-use Rattle.certificate.specs.Check.{indexOf, andThen, asked, ownOf, pointAnswer, chordFits, answerAt, stopped, pointTurn, allPassed, pointsAnswer, claimSo, fitOf, claimAnswer, checkOf}
+use Rattle.certificate.specs.Check.{indexOf, andThen, asked, ownOf, pointAnswer, chordFits, answerAt, stopped, pointBody, allPassed, pointsAnswer, claimSo, fitOf, claimAnswer, checkOf}
 use Rattle.certificate.proofs.Passed.{claim-count}
 
 -- 1 to 4 name no point
@@ -70,16 +70,16 @@ module _ (a b : Patch) (tol : Tolerance) (l : List Float) (count start closing :
       go true true true true = omega arith
 
   from : ℕ → Checked
-  from i = searched (pointTurn a b (tol .confusion) l count closing) allPassed i count (on tt)
+  from i = searched (pointBody a b (tol .confusion) l count closing) allPassed i count (on tt)
 
   points-index : (k i : ℕ) → count - i ≡ k → indexOf (from i) ≤ count
   unfolding from
-  points-index zero i e = rw (searched-end (pointTurn a b (tol .confusion) l count closing) allPassed i count tt (omega arith)) (omega arith)
+  points-index zero i e = rw (searched-end (pointBody a b (tol .confusion) l count closing) allPassed i count tt (omega arith)) (omega arith)
   points-index (suc k) i e =
-      rw (searched-step (pointTurn a b (tol .confusion) l count closing) allPassed i count tt (omega arith)) (go (answerAt a b (tol .confusion) l count closing i) (answer-index i) (points-index k (i + 1) (omega arith)))
+      rw (searched-step (pointBody a b (tol .confusion) l count closing) allPassed i count tt (omega arith)) (go (answerAt a b (tol .confusion) l count closing i) (answer-index i) (points-index k (i + 1) (omega arith)))
     where
-      go : (s : Checked) → indexOf s ≤ i → indexOf (from (i + 1)) ≤ count → indexOf (searched (pointTurn a b (tol .confusion) l count closing) allPassed (i + 1) count (stopped s)) ≤ count
-      go (Refused r) h n = rw (searched-out (pointTurn a b (tol .confusion) l count closing) allPassed (i + 1) count (Refused r)) (omega (arith, h))
+      go : (s : Checked) → indexOf s ≤ i → indexOf (from (i + 1)) ≤ count → indexOf (searched (pointBody a b (tol .confusion) l count closing) allPassed (i + 1) count (stopped s)) ≤ count
+      go (Refused r) h n = rw (searched-out (pointBody a b (tol .confusion) l count closing) allPassed (i + 1) count (Refused r)) (omega (arith, h))
       go Passed h n = n
 
   pub check-index : indexOf (checkOf a b tol l count start closing) ≤ 4001

@@ -1,4 +1,4 @@
--- The check's answer is passed exactly when `Passes` holds. Assumes nothing.
+-- The check's answer is passed exactly when `Passes` holds.
 use mathlib.Core.Path.{_≡_, refl, sym, ap, _∙_, subst}
 use mathlib.Core.Bool.{Bool, true, false, _&&_}
 use mathlib.Core.List.{List}
@@ -17,7 +17,7 @@ use Rattle.number.specs.Operators.{_≤?_}
 use Rattle.groups.specs.Groups.{width, holdsOf}
 use Rattle.groups.specs.declared.row.Row.{Row}
 use denote.Floats.{passes}
-use Rattle.loops.proofs.Some.{cases}
+use Rattle.loops.proofs.Any.{cases}
 use Rattle.groups.specs.Row.{rowAt, rowOf, pointAt}
 use Rattle.groups.proofs.Groups.{holds-length}
 use Rattle.groups.proofs.Rows.{row-there}
@@ -34,7 +34,7 @@ use Rattle.patch.specs.Patch.{fitnessOf, insideOf}
 use Rattle.certificate.specs.declared.check.Checked.{Checked}
 use Rattle.certificate.specs.declared.check.Checked.the-variants.{Passed, Refused}
 use Rattle.certificate.specs.Passes.{parametersAt, closingChord, PointPasses, ClosedAs, claimed-open, forward, backward, Passes}
-use Rattle.certificate.specs.Check.{andThen, asked, finitePoint, samePoint, ownOf, pointAnswer, chordFits, answerAt, stopped, pointTurn, allPassed, pointsAnswer, sameRow, closingSo, claimSo, fitOf, claimAnswer, checkOf}
+use Rattle.certificate.specs.Check.{andThen, asked, finitePoint, samePoint, ownOf, pointAnswer, chordFits, answerAt, stopped, pointBody, allPassed, pointsAnswer, sameRow, closingSo, claimSo, fitOf, claimAnswer, checkOf}
 use Rattle.certificate.proofs.Bits.{Binary64, point-equal, equal-point, read-fits, row-equal, equal-row, fresh-fits}
 
 -- ---- answers and tests
@@ -120,7 +120,7 @@ module _ (a b : Patch) (tol : Tolerance) (l : List Float) (count closing : ℕ) 
   -- ---- the search over the points
 
   abbrev from : ℕ → Flow (Unit {0}) Checked → Checked
-  from i s = searched (pointTurn a b (tol .confusion) l count closing) allPassed i count s
+  from i s = searched (pointBody a b (tol .confusion) l count closing) allPassed i count s
 
   abbrev answer : ℕ → Checked
   answer i = answerAt a b (tol .confusion) l count closing i

@@ -1,4 +1,4 @@
--- One turn of the check's loop, as the function's proofs cite it. Assumes nothing.
+-- One turn of the check's loop, as the function's proofs cite it.
 use mathlib.Core.Path.{_≡_, sym, ap, _∙_}
 use mathlib.Core.List.{List}
 use Prim.Native.Nat.{ℕ}
@@ -12,7 +12,7 @@ use Rattle.certificate.specs.declared.check.Checked.{Checked}
 use Rattle.certificate.specs.declared.check.Checked.the-variants.{Passed, Refused}
 use Rattle.groups.specs.Row.{pointAt}
 use Rattle.certificate.specs.Passes.{parametersAt}
-use Rattle.certificate.specs.Check.{pointAnswer, answerAt, stopped, pointTurn}
+use Rattle.certificate.specs.Check.{pointAnswer, answerAt, stopped, pointBody}
 
 module _ (a b : Patch) (confusion : Float) (l : List Float) where
   -- the point and its parameters are those read off the list
@@ -22,8 +22,8 @@ module _ (a b : Patch) (confusion : Float) (l : List Float) where
 
   module _ (count closing i : ℕ) {s : Checked} (e : s ≡ answerAt a b confusion l count closing i) where
     -- a refusal ends the loop, and it goes on from a point that passes
-    pub turn-out : {r : Refusal} → s ≡ Refused r → pointTurn a b confusion l count closing i tt ≡ out (Refused r)
+    pub turn-out : {r : Refusal} → s ≡ Refused r → pointBody a b confusion l count closing i tt ≡ out (Refused r)
     turn-out f = ap stopped (sym e ∙ f)
 
-    pub turn-on : s ≡ Passed → pointTurn a b confusion l count closing i tt ≡ on tt
+    pub turn-on : s ≡ Passed → pointBody a b confusion l count closing i tt ≡ on tt
     turn-on f = ap stopped (sym e ∙ f)

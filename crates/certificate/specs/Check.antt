@@ -90,8 +90,8 @@ stopped (Refused r) = out (Refused r)
 stopped Passed = on tt
 
 -- one turn of the loop over the points
-abbrev pub pointTurn : Patch → Patch → Float → List Float → ℕ → ℕ → ℕ → Unit {0} → Flow (Unit {0}) Checked
-pointTurn a b confusion l count closing i s = stopped (answerAt a b confusion l count closing i)
+abbrev pub pointBody : Patch → Patch → Float → List Float → ℕ → ℕ → ℕ → Unit {0} → Flow (Unit {0}) Checked
+pointBody a b confusion l count closing i s = stopped (answerAt a b confusion l count closing i)
 
 -- no point was refused
 abbrev pub allPassed : Unit {0} → Checked
@@ -99,7 +99,7 @@ allPassed s = Passed
 
 -- all points, from 0 on
 unfoldable pub pointsAnswer : Patch → Patch → Float → List Float → ℕ → ℕ → Checked
-pointsAnswer a b confusion l count closing = searched (pointTurn a b confusion l count closing) allPassed 0 count (on tt)
+pointsAnswer a b confusion l count closing = searched (pointBody a b confusion l count closing) allPassed 0 count (on tt)
 
 -- ---- 12: "count outside 4 to 4001, start index not below the count, closing code above 2, or a closing that isn't so"
 

@@ -1,4 +1,4 @@
--- The charted examples hold, each by evaluation of the definitions. Assumes nothing.
+-- The charted examples hold, each by evaluation of the definitions.
 use mathlib.Core.Path.{refl}
 use lib.Ieee.{toBits, ofBits}
 use Rattle.sqrt.specs.Sqrt.{sqrtOf}
@@ -10,18 +10,18 @@ use Rattle.analytic.specs.Surface.{evalPoint}
 use Rattle.fdlibm.proofs.Examples as fdlibm
 use Rattle.solve.proofs.Computing as solve
 use Rattle.boxes.proofs.Computing as boxes
-use Rattle.marching.specs.Leaving.{leavingOf, firstOf, considerOf, lesserOf}
+use Rattle.marching.specs.Leaving.{leavingOf, runStart, considerOf, lesserOf}
 use Rattle.marching.specs.Tangent.{normalOf, unitCross, tangentOf}
 use Rattle.meeting.proofs.Evaluated as meeting
 use Rattle.number.specs.Helpers.{numberFit}
 use Rattle.geometry.specs.Point.{pointFit}
 use Rattle.geometry.specs.Tolerance.{defaultTolerance, toleranceFit}
 use Rattle.patch.specs.Patch.{vectorFit, frameFit, numbersFit, sizesFit, windowFit, markFit, uIsAngle, vIsAngle, fitnessOf}
-use Rattle.walk.specs.Trace.{guessFinite, limitsOf, callFitness, walkedOf, traceOf}
+use Rattle.walk.specs.Trace.{guessFinite, limitsOf, callFitness, walkOf, traceOf}
 use Rattle.examples.specs.Table.{Table}
 
 pub table : Table
-unfolding evalPoint planeD0 cylinderD0 pointAtOf addVectorOf scaleOf pointOf vectorOf zeroVector fdlibm.computing solve.computing boxes.computing leavingOf firstOf considerOf lesserOf meeting.computing normalOf unitCross tangentOf fitnessOf numbersFit sizesFit windowFit markFit uIsAngle vIsAngle frameFit vectorFit pointFit numberFit defaultTolerance toleranceFit guessFinite limitsOf callFitness walkedOf traceOf sqrtOf toBits ofBits
+unfolding evalPoint planeD0 cylinderD0 pointAtOf addVectorOf scaleOf pointOf vectorOf zeroVector fdlibm.computing solve.computing boxes.computing leavingOf runStart considerOf lesserOf meeting.computing normalOf unitCross tangentOf fitnessOf numbersFit sizesFit windowFit markFit uIsAngle vIsAngle frameFit vectorFit pointFit numberFit defaultTolerance toleranceFit guessFinite limitsOf callFitness walkOf traceOf sqrtOf toBits ofBits
 table =
     record {
       row1 = refl;

@@ -8,8 +8,7 @@ use lib.IntN.{negsuc}
 use lib.ListN.{replicate}
 use lib.Ieee.{Float, fin, binary64, toBits}
 use Rattle.number.specs.Operators.{bits}
-use Rattle.number.specs.Helpers.{one, half, two}
-use Rattle.groups.specs.Row.{zero}
+use Rattle.number.specs.Helpers.{positiveZero, one, half, two}
 use Rattle.geometry.specs.declared.tolerance.Tolerance.{Tolerance}
 use Rattle.geometry.specs.Tolerance.{defaultTolerance}
 use Rattle.analytic.specs.declared.surface.Surface.{Surface}
@@ -77,14 +76,14 @@ twoToMinus e = fin false 1 (negsuc (e - 1))
 
 -- the matrix with this diagonal
 abbrev pub diagonal : Float → Float → Float → List (List Float)
-diagonal a b c = (a ∷ zero ∷ zero ∷ []) ∷ (zero ∷ b ∷ zero ∷ []) ∷ (zero ∷ zero ∷ c ∷ []) ∷ []
+diagonal a b c = (a ∷ positiveZero ∷ positiveZero ∷ []) ∷ (positiveZero ∷ b ∷ positiveZero ∷ []) ∷ (positiveZero ∷ positiveZero ∷ c ∷ []) ∷ []
 
 -- "Windows all 0 to 1, no marks", whatever the surface
 abbrev pub unitPatch : Surface → Patch
 unitPatch s = record {
   surface = s;
-  u = record { low = zero; high = one; turn = false };
-  v = record { low = zero; high = one; turn = false };
+  u = record { low = positiveZero; high = one; turn = false };
+  v = record { low = positiveZero; high = one; turn = false };
 }
 
 -- (u1, v1, u2, v2)
@@ -92,14 +91,14 @@ abbrev pub parameters : Float → Float → Float → Float → Parameters
 parameters u1 v1 u2 v2 = record { u1 = u1; v1 = v1; u2 = u2; v2 = v2 }
 
 -- a point's seven numbers at (x, 0, 0), whatever its parameters
-abbrev pub onAxis : Float → (ℕ → Float) → List Float
-onAxis x p = x ∷ zero ∷ zero ∷ p 0 ∷ p 1 ∷ p 2 ∷ p 3 ∷ []
+abbrev pub axisPoint : Float → (ℕ → Float) → List Float
+axisPoint x p = x ∷ positiveZero ∷ positiveZero ∷ p 0 ∷ p 1 ∷ p 2 ∷ p 3 ∷ []
 
 -- "Points (0,0,0), (0.1,0,0), (0.2,0,0), (0.3,0,0)"
 abbrev pub fourPoints : (ℕ → ℕ → Float) → List Float
 fourPoints p =
-    onAxis zero (p 0) ++ onAxis (bits 0x3fb9_9999_9999_999a) (p 1) ++ onAxis (bits 0x3fc9_9999_9999_999a) (p 2)
-    ++ onAxis (bits 0x3fd3_3333_3333_3333) (p 3)
+    axisPoint positiveZero (p 0) ++ axisPoint (bits 0x3fb9_9999_9999_999a) (p 1) ++ axisPoint (bits 0x3fc9_9999_9999_999a) (p 2)
+    ++ axisPoint (bits 0x3fd3_3333_3333_3333) (p 3)
 
 -- "confusion 2^-20, angular 1e-12", whatever the parametric tolerance
 abbrev pub confusion20 : Float → Tolerance
@@ -112,10 +111,10 @@ boxAt x y z = record { low = record { x = x; y = y; z = z }; high = record { x =
 -- the frame with axes (1,0,0), (0,1,0), (0,0,1) whose origin is 0 moved by a vector
 abbrev pub movedFrame : Vector3D → Frame3D
 movedFrame by = record {
-  origin = addVectorOf (pointOf zero zero zero) by;
-  x = vectorOf one zero zero;
-  y = vectorOf zero one zero;
-  z = vectorOf zero zero one;
+  origin = addVectorOf (pointOf positiveZero positiveZero positiveZero) by;
+  x = vectorOf one positiveZero positiveZero;
+  y = vectorOf positiveZero one positiveZero;
+  z = vectorOf positiveZero positiveZero one;
 }
 
 -- ""Unit frame" is origin 0 with axes (1,0,0), (0,1,0), (0,0,1)."
@@ -132,26 +131,26 @@ squarePlane f = record {
 
 -- example 9's call: B is A moved by a vector; "default tolerance, cap 2", "guess all 0"
 abbrev pub nineOf : Vector3D → List Float → Outcome
-nineOf by l = traceOf (squarePlane unitFrame) (squarePlane (movedFrame by)) defaultTolerance (parameters zero zero zero zero) 2 l
+nineOf by l = traceOf (squarePlane unitFrame) (squarePlane (movedFrame by)) defaultTolerance (parameters positiveZero positiveZero positiveZero positiveZero) 2 l
 
 -- numbers lent, whatever they are
 abbrev pub lent : ℕ → (ℕ → Float) → List Float
-lent nat.zero p = []
+lent nat.positiveZero p = []
 lent (nat.suc k) p = p k ∷ lent k p
 
 -- "The (P) rows form one table"
 pub record Table : Type 0 where
   -- "Plane, unit frame, (3, -2): point (3, -2, 0)."
-  pub row1 : evalPoint (Plane unitFrame) three -two ≡ pointOf three -two zero
+  pub row1 : evalPoint (Plane unitFrame) three -two ≡ pointOf three -two positiveZero
   -- "Cylinder radius 2, unit frame, (0, 5): (2, 0, 5)."
-  pub row2 : evalPoint (Cylinder unitFrame two) zero five ≡ pointOf two zero five
+  pub row2 : evalPoint (Cylinder unitFrame two) positiveZero five ≡ pointOf two positiveZero five
   -- "Square root of 2: bits hexadecimal 3ff6a09e667f3bcd."
   pub row3 : toBits binary64 (sqrtOf two) ≡ 0x3ff6a09e667f3bcd
   -- "Square root of 2^-1074: 2^-537."
   pub row4 : sqrtOf (twoToMinus 1074) ≡ twoToMinus 537
   -- "`solve_2x2` of rows (2,0), (0,4), right side (2,4): (1,1). Rows (1,1), (1,1): gives up." ("tol is 1e-12 throughout")
   pub row5 :
-      (solve2Of ((two ∷ zero ∷ []) ∷ (zero ∷ four ∷ []) ∷ []) (two ∷ four ∷ []) 1e-12 ≡ solved2.Solution (record { x0 = one; x1 = one }))
+      (solve2Of ((two ∷ positiveZero ∷ []) ∷ (positiveZero ∷ four ∷ []) ∷ []) (two ∷ four ∷ []) 1e-12 ≡ solved2.Solution (record { x0 = one; x1 = one }))
       × ((right : List Float) → solve2Of ((one ∷ one ∷ []) ∷ (one ∷ one ∷ []) ∷ []) right 1e-12 ≡ solved2.Singular)
   -- "Diagonal (1, 1, 4e-12), right side (1, 2, 4e-12): (1, 2, 1). Diagonal (1, 1, 1e-12): gives up."
   pub row6 :
@@ -164,17 +163,17 @@ pub record Table : Type 0 where
       → leavingOf (unitPatch a) (unitPatch b) (parameters half half half half) (parameters threeHalves half threeHalves half) ≡ exit.At 0 one)
       × ((a b : Surface)
       → leavingOf (unitPatch a) (unitPatch b) (parameters half half half half) (parameters threeHalves half half -threeHalves)
-      ≡ exit.At 3 zero)
+      ≡ exit.At 3 positiveZero)
   -- "Points (0,0,0), (0.1,0,0), (0.2,0,0), (0.3,0,0), confusion 2^-20, angular 1e-12: the box that is the point (0.15, 0.005, 0) is
   -- crossed, (0.15, 0.01, 0) is not."
   pub row8 :
       ((p : ℕ → ℕ → Float) (t : Float)
-      → crossingOf (confusion20 t) (fourPoints p) 4 (boxAt (bits 0x3fc3_3333_3333_3333) (bits 0x3f74_7ae1_47ae_147b) zero) ≡ crossed.Yes)
+      → crossingOf (confusion20 t) (fourPoints p) 4 (boxAt (bits 0x3fc3_3333_3333_3333) (bits 0x3f74_7ae1_47ae_147b) positiveZero) ≡ crossed.Yes)
       × ((p : ℕ → ℕ → Float) (t : Float)
-      → crossingOf (confusion20 t) (fourPoints p) 4 (boxAt (bits 0x3fc3_3333_3333_3333) (bits 0x3f84_7ae1_47ae_147b) zero) ≡ crossed.No)
+      → crossingOf (confusion20 t) (fourPoints p) 4 (boxAt (bits 0x3fc3_3333_3333_3333) (bits 0x3f84_7ae1_47ae_147b) positiveZero) ≡ crossed.No)
   -- "A and B the same unit-frame plane, windows -1 to 1, no marks, default tolerance, cap 2, 35 numbers lent, guess all 0: 10. B's origin
   -- moved to z = 1: 9." (and the 35 numbers are positive zero afterwards)
   pub row9 :
-      ((p : ℕ → Float) → (refusalOf (nineOf zeroVector (lent 35 p) .answer) ≡ 10) × (nineOf zeroVector (lent 35 p) .buffer ≡ replicate 35 zero))
+      ((p : ℕ → Float) → (refusalOf (nineOf zeroVector (lent 35 p) .answer) ≡ 10) × (nineOf zeroVector (lent 35 p) .buffer ≡ replicate 35 positiveZero))
       × ((p : ℕ → Float)
-      → (refusalOf (nineOf (vectorOf zero zero one) (lent 35 p) .answer) ≡ 9) × (nineOf (vectorOf zero zero one) (lent 35 p) .buffer ≡ replicate 35 zero))
+      → (refusalOf (nineOf (vectorOf positiveZero positiveZero one) (lent 35 p) .answer) ≡ 9) × (nineOf (vectorOf positiveZero positiveZero one) (lent 35 p) .buffer ≡ replicate 35 positiveZero))

@@ -1,4 +1,4 @@
--- Numbers of magnitude at most 2 ^ k, and what the operations make of them: as long as no bound passes 2 ^ 1023 no result overflows. Assumes nothing.
+-- Numbers of magnitude at most 2 ^ k, and what the operations make of them: as long as no bound passes 2 ^ 1023 no result overflows.
 use mathlib.Core.Path.{_≡_, refl, sym, ap, _∙_, subst}
 use Prim.Native.Nat.{ℕ, suc, _+_, _-_, _*_, _/_, _%_, _^_, _≤_, _<_, compare}
 use native.Mathlib.Nat.{le-trans, le-of-eq, lt-of-le-of-lt, mul-comm, mul-assoc, mul-one, mul-pos, mul-le-mul, mul-le-mul-right, div-one, mod-one, div-le-of-le-mul}
@@ -17,7 +17,7 @@ use lib.Ieee.Order.{kept, drop}
 use lib.Ieee.Scale.{finite}
 use Rattle.number.specs.Operators.{_⊕_, _⊖_, _⊗_, bits}
 use Rattle.number.specs.Helpers.{absOf}
-use Rattle.number.specs.Units.{unit, mag, neg?}
+use Rattle.number.specs.Units.{unitsInOne, mag, neg?}
 use Rattle.number.proofs.Values.{Is, whole, add-is, sub-is, mul-is, neg-is}
 
 -- x is finite, and at most 2 ^ k in magnitude: ±`units-of` units of 2 ^ -1074
@@ -66,9 +66,9 @@ module _ (N c K : ℕ) (C : 0 < c) (h : N ≤ 2 ^ K * c) where
       (le-of-eq (closest-one (2 ^ (K - d))))))
       (le-of-eq e)
 
-pub round-under : (s : Bool) (n c k : ℕ) → 0 < c → k ≤ 1023 → n * unit ≤ 2 ^ (1074 + k) * c → Under k (round binary64 s n c)
+pub round-under : (s : Bool) (n c k : ℕ) → 0 < c → k ≤ 1023 → n * unitsInOne ≤ 2 ^ (1074 + k) * c → Under k (round binary64 s n c)
 round-under s n c k C K h =
-    let N = n * unit in
+    let N = n * unitsInOne in
     let l = grid-le N c (1074 + k) C h in
     record {
       sign = s;
@@ -92,14 +92,14 @@ both l k n a b p q h = mul-le-mul-right (2 ^ l) (le-trans h (le-trans (twice (2 
     next : (l k : ℕ) → l + k + 1 ≡ l + suc k
     next l k = omega arith
 
-sum-under : (s t : Bool) (a b k : ℕ) → a ≤ 2 ^ (1074 + k) → b ≤ 2 ^ (1074 + k) → k ≤ 1022 → Under (suc k) (sum binary64 s a t b unit)
+sum-under : (s t : Bool) (a b k : ℕ) → a ≤ 2 ^ (1074 + k) → b ≤ 2 ^ (1074 + k) → k ≤ 1022 → Under (suc k) (sum binary64 s a t b unitsInOne)
 unfolding sum
 sum-under s t a b k p q K =
     cond-is (Under (suc k)) (Bool·beq s t) _ _ (at s (a + b) (omega arith))
     (cond-is (Under (suc k)) (ltb a b) _ _ (at t (b - a) (omega arith)) (at (s && ltb b a) (a - b) (omega arith)))
   where
-    at : (u : Bool) (n : ℕ) → n ≤ a + b → Under (suc k) (round binary64 u n unit)
-    at u n h = round-under u n unit (suc k) (pow-pos 1074) (omega arith) (both 1074 k n a b p q h)
+    at : (u : Bool) (n : ℕ) → n ≤ a + b → Under (suc k) (round binary64 u n unitsInOne)
+    at u n h = round-under u n unitsInOne (suc k) (pow-pos 1074) (omega arith) (both 1074 k n a b p q h)
 
 module _ {i j : ℕ} {x y : Float} (k : ℕ) (p : T (leb i k)) (q : T (leb j k)) (r : T (leb k 1022)) (u : Under i x) (v : Under j y) where
   pub plus : Under (suc k) (x ⊕ y)
@@ -122,7 +122,7 @@ product l i j a b p q =
 pub times : {i j : ℕ} {x y : Float} → T (leb (i + j) 1023) → Under i x → Under j y → Under (i + j) (x ⊗ y)
 times {i} {j} {x} {y} r u v =
     subst (Under (i + j)) (sym (mul-is x y (u .sign) (v .sign) (u .units-of) (v .units-of) (u .is) (v .is)))
-    (round-under (unlike (u .sign) (v .sign)) (u .units-of * v .units-of) (unit * unit) (i + j) (mul-pos (pow-pos 1074) (pow-pos 1074)) (leb→le (i + j) 1023 r)
+    (round-under (unlike (u .sign) (v .sign)) (u .units-of * v .units-of) (unitsInOne * unitsInOne) (i + j) (mul-pos (pow-pos 1074) (pow-pos 1074)) (leb→le (i + j) 1023 r)
     (product 1074 i j (u .units-of) (v .units-of) (u .most) (v .most)))
 
 -- ---- the sign, whole numbers, constants

@@ -1,15 +1,15 @@
--- Values of the functions by evaluation; `computing` opens all that a closed term needs. Assumes nothing.
+-- Values of the functions by evaluation; `computing` opens all that a closed term needs.
 use mathlib.Core.Path.{_≡_, refl}
 use lib.Ieee.{add, sub, mul, div, neg, ofBits, toBits, ofInt, toUnsigned, isNan}
 use Rattle.number.specs.Operators.{bits}
 use Rattle.number.specs.Helpers.{absOf}
 use Rattle.fdlibm.specs.Kernel.{kernelSin, kernelCos, qxOf}
-use Rattle.fdlibm.specs.Reduction.{remPio2, aboveOf, belowOf, firstOf, nextOf, carefulOf, settledOf, mediumOf, backOf}
+use Rattle.fdlibm.specs.Reduction.{remPio2, aboveOf, belowOf, firstDifference, nextDifference, carefulOf, refinedOf, mediumOf, negatedOf}
 use Rattle.fdlibm.specs.Sine.{sinAt, cosAt, sinOf, cosOf}
 use Rattle.fdlibm.specs.Arctangent.{farOf, placedOf, foldedOf, atanOf, bySigns, upright, farAlong, quotientOf, atan2Of}
 
 unfoldable pub computing : Unit {0}
-unfolding add sub mul div neg ofBits toBits ofInt toUnsigned isNan absOf kernelSin kernelCos qxOf remPio2 aboveOf belowOf firstOf nextOf carefulOf settledOf mediumOf backOf sinAt cosAt sinOf cosOf farOf placedOf foldedOf atanOf bySigns upright farAlong quotientOf atan2Of
+unfolding add sub mul div neg ofBits toBits ofInt toUnsigned isNan absOf kernelSin kernelCos qxOf remPio2 aboveOf belowOf firstDifference nextDifference carefulOf refinedOf mediumOf negatedOf sinAt cosAt sinOf cosOf farOf placedOf foldedOf atanOf bySigns upright farAlong quotientOf atan2Of
 computing = tt
 
 pub sin-zero : sinOf (bits 0) ≡ bits 0

@@ -1,4 +1,4 @@
--- In reach sine and cosine are finite: no step can overflow. The bounds are crude, powers of two. Assumes nothing.
+-- In reach sine and cosine are finite: no step can overflow. The bounds are crude, powers of two.
 use mathlib.Core.Path.{sym, subst}
 use Prim.Native.Nat.{ℕ, zero, suc, _+_, _-_, _*_, _/_, _%_, _^_, _≤_, _<_}
 use native.Mathlib.Nat.{le-trans, le-of-lt, mod-lt}
@@ -23,7 +23,7 @@ use Rattle.fdlibm.specs.declared.reduction.Reduced.{Reduced}
 use Rattle.fdlibm.specs.declared.reduction.Reduced.the-variants.{To, Beyond}
 use Rattle.fdlibm.specs.Words.{ixOf, signOf, exponentOf}
 use Rattle.fdlibm.specs.Kernel.{sinSeries, cosSeries, kernelSin, kernelCos, qxOf}
-use Rattle.fdlibm.specs.Reduction.{npio2hw, aboveOf, belowOf, firstOf, nextOf, carefulOf, settledOf, mediumOf, backOf, remPio2}
+use Rattle.fdlibm.specs.Reduction.{npio2hw, aboveOf, belowOf, firstDifference, nextDifference, carefulOf, refinedOf, mediumOf, negatedOf, remPio2}
 use Rattle.fdlibm.specs.Constants.{S1, invpio2, pio2-2, pio2-2t, pio2-3, pio2-3t}
 use Rattle.fdlibm.specs.Sine.{sinAt, cosAt, sinOf, cosOf}
 use Rattle.fdlibm.proofs.Fields.{at, fields, normal}
@@ -152,20 +152,20 @@ LeftOf (To a) = Left a
 LeftOf Beyond = ⊥
 
 module _ (n : Float) (u : Under 31 n) where
-  first-under : (t : Float) → Under 21 t → Parted 33 (firstOf t n)
-  unfolding firstOf ofBits
+  first-under : (t : Float) → Under 21 t → Parted 33 (firstDifference t n)
+  unfolding firstDifference ofBits
   first-under t v =
       (minus 32 tt tt tt v (times tt u (constant 0x3ff921fb54400000 1 tt tt)), lift 33 tt (times tt u (constant 0x3dd0b4611a626331 0 tt tt)))
 
-  second-under : (d : Difference) → Parted 33 d → Parted 37 (nextOf d n pio2-2 pio2-2t)
-  unfolding nextOf ofBits
+  second-under : (d : Difference) → Parted 33 d → Parted 37 (nextDifference d n pio2-2 pio2-2t)
+  unfolding nextDifference ofBits
   second-under d v =
       let w = times tt u (constant 0x3dd0b4611a600000 0 tt tt) in
       let r = minus 33 tt tt tt (v .0) w in
       (lift 37 tt r, minus 36 tt tt tt (times tt u (constant 0x3ba3198a2e037073 0 tt tt)) (minus 35 tt tt tt (minus 34 tt tt tt (v .0) r) w))
 
-  third-under : (d : Difference) → Parted 37 d → Parted 41 (nextOf d n pio2-3 pio2-3t)
-  unfolding nextOf ofBits
+  third-under : (d : Difference) → Parted 37 d → Parted 41 (nextDifference d n pio2-3 pio2-3t)
+  unfolding nextDifference ofBits
   third-under d v =
       let w = times tt u (constant 0x3ba3198a2e000000 0 tt tt) in
       let r = minus 37 tt tt tt (v .0) w in
@@ -174,13 +174,13 @@ module _ (n : Float) (u : Under 31 n) where
   careful-under : (d : Difference) (ix : ℕ) → Parted 33 d → Parted 41 (carefulOf d n ix)
   unfolding carefulOf
   careful-under d ix v =
-      let d2 = nextOf d n pio2-2 pio2-2t in
+      let d2 = nextDifference d n pio2-2 pio2-2t in
       let v2 = second-under d v in
       pick-is (Parted 41) (leb (ix / 2 ^ 20) (exponentOf (d .r ⊖ d .w) + 16)) (lift 41 tt (v .0), lift 41 tt (v .1))
       (pick-is (Parted 41) (leb (ix / 2 ^ 20) (exponentOf (d2 .r ⊖ d2 .w) + 49)) (lift 41 tt (v2 .0), lift 41 tt (v2 .1)) (third-under d2 v2))
 
-  settled-under : (d : Difference) (whole ix : ℕ) → Parted 33 d → Parted 41 (settledOf d whole n ix)
-  unfolding settledOf
+  settled-under : (d : Difference) (whole ix : ℕ) → Parted 33 d → Parted 41 (refinedOf d whole n ix)
+  unfolding refinedOf
   settled-under d whole ix v =
       let c = careful-under d ix v in
       pick-is (Parted 41) (ltb whole 32) (pick-is (Parted 41) (eqb ix (getD npio2hw whole 0)) c (lift 41 tt (v .0), lift 41 tt (v .1))) c
@@ -191,12 +191,12 @@ medium-under t ix v =
     let whole = toUnsigned 31 (t ⊗ invpio2 ⊕ half) in
     let n = ofInt binary64 (pos whole) in
     let u : Under 31 n = counted whole 31 (lit≤ tt) (le-trans (cut-most (t ⊗ invpio2 ⊕ half)) (lit≤ tt)) in
-    let d = settled-under n u (firstOf t n) whole ix (first-under n u t v) in
+    let d = settled-under n u (firstDifference t n) whole ix (first-under n u t v) in
     let y = minus 41 tt tt tt (d .0) (d .1) in
     (lift 44 tt y, minus 43 tt tt tt (minus 42 tt tt tt (d .0) y) (d .1))
 
-back-under : (a : Reduction) → Left a → Left (backOf a)
-unfolding backOf
+back-under : (a : Reduction) → Left a → Left (negatedOf a)
+unfolding negatedOf
 back-under a v = (turned (v .0), turned (v .1))
 
 module _ (x : Float) (ix : ℕ) (u : Under 21 x) where

@@ -1,4 +1,4 @@
--- What every angle's sine and cosine have: a NaN beyond reach, and a result that binary64 holds. Assumes nothing.
+-- What every angle's sine and cosine have: a NaN beyond reach, and a result that binary64 holds.
 use mathlib.Core.Path.{_≡_, refl, ap, _∙_}
 use Prim.Native.Nat.{ℕ, _+_, _*_, _/_, _%_, _^_, _≤_, _<_}
 use native.Mathlib.Omega.{arith}
@@ -18,9 +18,9 @@ use Rattle.number.proofs.Sign.{abs-fits}
 use Rattle.fdlibm.specs.declared.reduction.Reduction.{Reduction}
 use Rattle.fdlibm.specs.declared.reduction.Reduced.{Reduced}
 use Rattle.fdlibm.specs.declared.reduction.Reduced.the-variants.{To, Beyond}
-use Rattle.fdlibm.specs.Words.{ixOf, signOf, magnitudeOf}
+use Rattle.fdlibm.specs.Words.{ixOf, signOf, magnitudeBits}
 use Rattle.fdlibm.specs.Kernel.{kernelSin, kernelCos}
-use Rattle.fdlibm.specs.Reduction.{remPio2, aboveOf, belowOf, mediumOf, backOf}
+use Rattle.fdlibm.specs.Reduction.{remPio2, aboveOf, belowOf, mediumOf, negatedOf}
 use Rattle.fdlibm.specs.Sine.{sinOf, cosOf, sinAt, cosAt, inReach}
 use Rattle.fdlibm.specs.Arctangent.{farOf, placedOf, foldedOf, atanOf, bySigns, upright, farAlong, quotientOf, signsOf, atan2Of}
 use Rattle.fdlibm.proofs.Fields.{at, fields}
@@ -144,8 +144,8 @@ medium-fits : (t : Float) (ix : ℕ) → Left (mediumOf t ix)
 unfolding mediumOf
 medium-fits t ix = sub-fits binary64 _ _
 
-back-fits : (a : Reduction) → Left a → Left (backOf a)
-unfolding backOf
+back-fits : (a : Reduction) → Left a → Left (negatedOf a)
+unfolding negatedOf
 back-fits a f = neg-fits binary64 (a .y0) f
 
 rem-fits : (x : Float) → Fit x → LeftOf (remPio2 x)
@@ -230,14 +230,14 @@ quotient-fits y x s iy ix =
 pub atan2-fits : (y x : Float) → Fit y → Fit (atan2Of y x)
 unfolding atan2Of
 atan2-fits y x f =
-    let ix = magnitudeOf x / 2 ^ 32 in
-    let iy = magnitudeOf y / 2 ^ 32 in
+    let ix = magnitudeBits x / 2 ^ 32 in
+    let iy = magnitudeBits y / 2 ^ 32 in
     let z = quotient-fits y x (signOf x) iy ix in
     pick-is Fit (isNan x) (add-fits binary64 x y)
     (pick-is Fit (isNan y) (add-fits binary64 x y)
     (pick-is Fit (eqb (toBits binary64 x) 0x3ff0000000000000) (atan-fits y f)
-    (pick-is Fit (eqb (magnitudeOf y) 0) (by-signs-fits (signsOf y x) _ _ _ _ f f (add-fits binary64 _ _) (sub-fits binary64 _ _))
-    (pick-is Fit (eqb (magnitudeOf x) 0) (upright-fits (signOf y))
+    (pick-is Fit (eqb (magnitudeBits y) 0) (by-signs-fits (signsOf y x) _ _ _ _ f f (add-fits binary64 _ _) (sub-fits binary64 _ _))
+    (pick-is Fit (eqb (magnitudeBits x) 0) (upright-fits (signOf y))
     (pick-is Fit (eqb ix 0x7ff00000) (far-along-fits iy (signsOf y x))
     (pick-is Fit (eqb iy 0x7ff00000) (upright-fits (signOf y))
     (by-signs-fits (signsOf y x) _ _ _ _ z (neg-fits binary64 _ z) (sub-fits binary64 _ _) (sub-fits binary64 _ _))))))))

@@ -1,4 +1,4 @@
--- The whole part of a number by the fields of its bits is the whole part that C's cast gives. Assumes nothing.
+-- The whole part of a number by the fields of its bits is the whole part that C's cast gives.
 use mathlib.Core.Path.{_≡_, refl, sym, ap, _∙_, subst}
 use mathlib.Core.Logic.{_⊎_, inl, inr}
 use Prim.Native.Nat.{ℕ, zero, suc, _+_, _-_, _*_, _/_, _%_, _^_, _≤_, _<_, min}

@@ -7,7 +7,7 @@ use lib.Ieee.{Float, binary64, toBits, neg, isNan}
 use Rattle.loops.specs.Loop.{pick}
 use Rattle.number.specs.Operators.{_⊕_, _⊖_, _⊗_, _⊘_, bits}
 use Rattle.number.specs.Helpers.{one, half, two, absOf}
-use Rattle.fdlibm.specs.Words.{ixOf, signOf, magnitudeOf}
+use Rattle.fdlibm.specs.Words.{ixOf, signOf, magnitudeBits}
 use Rattle.fdlibm.specs.Constants.{three-halves, atanhi0, atanhi1, atanhi2, atanhi3, atanlo0, atanlo1, atanlo2, atanlo3, aT0, aT1, aT2, aT3, aT4, aT5, aT6, aT7, aT8, aT9, aT10, tiny, pi-o-4, pi-o-2, pi, pi-lo, three, minus-three, minus-one}
 
 -- s1 = z*(aT[0]+w*(aT[2]+w*(aT[4]+w*(aT[6]+w*(aT[8]+w*aT[10]))))), for w = z*z
@@ -82,13 +82,13 @@ aroundOf m z = bySigns m z (neg z) (pi ⊖ (z ⊖ pi-lo)) (z ⊖ pi-lo ⊖ pi)
 unfoldable pub atan2Of : Float → Float → Float
 atan2Of y x =
     let m = signsOf y x in
-    let ix = magnitudeOf x / 2 ^ 32 in
-    let iy = magnitudeOf y / 2 ^ 32 in
+    let ix = magnitudeBits x / 2 ^ 32 in
+    let iy = magnitudeBits y / 2 ^ 32 in
     pick (isNan x) (x ⊕ y)
     (pick (isNan y) (x ⊕ y)
     (pick (eqb (toBits binary64 x) 0x3ff0000000000000) (atanOf y)
-    (pick (eqb (magnitudeOf y) 0) (onAxis y m)
-    (pick (eqb (magnitudeOf x) 0) (upright (signOf y))
+    (pick (eqb (magnitudeBits y) 0) (onAxis y m)
+    (pick (eqb (magnitudeBits x) 0) (upright (signOf y))
     (pick (eqb ix 0x7ff00000) (farAlong iy m)
     (pick (eqb iy 0x7ff00000) (upright (signOf y))
     (aroundOf m (quotientOf y x (signOf x) iy ix))))))))

@@ -41,12 +41,12 @@ belowOf x ix =
     (record { quadrant = 3; y0 = z ⊕ pio2-1t; y1 = z ⊖ (z ⊕ pio2-1t) ⊕ pio2-1t })
 
 -- r = t - fn*pio2_1, w = fn*pio2_1t
-unfoldable pub firstOf : Float → Float → Difference
-firstOf t fn = record { r = t ⊖ fn ⊗ pio2-1; w = fn ⊗ pio2-1t }
+unfoldable pub firstDifference : Float → Float → Difference
+firstDifference t fn = record { r = t ⊖ fn ⊗ pio2-1; w = fn ⊗ pio2-1t }
 
 -- t = r, w = fn*part, r = t - w, w = fn*rest - ((t - r) - w)
-unfoldable pub nextOf : Difference → Float → Float → Float → Difference
-nextOf d fn part rest =
+unfoldable pub nextDifference : Difference → Float → Float → Float → Difference
+nextDifference d fn part rest =
     let t = d .r in
     let w = fn ⊗ part in
     record { r = t ⊖ w; w = fn ⊗ rest ⊖ (t ⊖ (t ⊖ w) ⊖ w) }
@@ -55,25 +55,25 @@ nextOf d fn part rest =
 unfoldable pub carefulOf : Difference → Float → ℕ → Difference
 carefulOf d fn ix =
     let j = ix / 2 ^ 20 in
-    let second = nextOf d fn pio2-2 pio2-2t in
+    let second = nextDifference d fn pio2-2 pio2-2t in
     pick (leb j (exponentOf (d .r ⊖ d .w) + 16)) d
-    (pick (leb j (exponentOf (second .r ⊖ second .w) + 49)) second (nextOf second fn pio2-3 pio2-3t))
+    (pick (leb j (exponentOf (second .r ⊖ second .w) + 49)) second (nextDifference second fn pio2-3 pio2-3t))
 
 -- if (n < 32 && ix != npio2_hw[n-1]) the first step is enough
-unfoldable pub settledOf : Difference → ℕ → Float → ℕ → Difference
-settledOf d n fn ix = pick (ltb n 32) (pick (eqb ix (getD npio2hw n 0)) (carefulOf d fn ix) d) (carefulOf d fn ix)
+unfoldable pub refinedOf : Difference → ℕ → Float → ℕ → Difference
+refinedOf d n fn ix = pick (ltb n 32) (pick (eqb ix (getD npio2hw n 0)) (carefulOf d fn ix) d) (carefulOf d fn ix)
 
 -- the medium range for a positive t of high word ix: n = (int)(t*invpio2 + half), y0 = r - w, y1 = (r - y0) - w
 unfoldable pub mediumOf : Float → ℕ → Reduction
 mediumOf t ix =
     let n = toUnsigned 31 (t ⊗ invpio2 ⊕ half) in
     let fn = ofInt binary64 (pos n) in
-    let d = settledOf (firstOf t fn) n fn ix in
+    let d = refinedOf (firstDifference t fn) n fn ix in
     record { quadrant = bitAnd n 3; y0 = d .r ⊖ d .w; y1 = d .r ⊖ (d .r ⊖ d .w) ⊖ d .w }
 
 -- hx < 0: y0, y1 and n negated; of n modulo 4 that is (4 - n) modulo 4
-unfoldable pub backOf : Reduction → Reduction
-backOf a = record { quadrant = bitAnd (4 - bitAnd (a .quadrant) 3) 3; y0 = neg (a .y0); y1 = neg (a .y1) }
+unfoldable pub negatedOf : Reduction → Reduction
+negatedOf a = record { quadrant = bitAnd (4 - bitAnd (a .quadrant) 3) 3; y0 = neg (a .y0); y1 = neg (a .y1) }
 
 -- __ieee754_rem_pio2(x, y): n modulo 4 and y, or `Beyond` ("An angle is in reach when the upper 32 bits of its magnitude are at most hexadecimal 413921fb")
 unfoldable pub remPio2 : Float → Reduced
@@ -82,5 +82,5 @@ remPio2 x =
     let a = mediumOf (absOf x) ix in
     pick (leb ix 0x3fe921fb) (To (record { quadrant = 0; y0 = x; y1 = bits 0 }))
     (pick (ltb ix 0x4002d97c) (To (pick (eqb (signOf x) 0) (aboveOf x ix) (belowOf x ix)))
-    (pick (leb ix 0x413921fb) (To (pick (eqb (signOf x) 0) a (backOf a)))
+    (pick (leb ix 0x413921fb) (To (pick (eqb (signOf x) 0) a (negatedOf a)))
     (pick (leb 0x7ff00000 ix) (To (record { quadrant = 0; y0 = x ⊖ x; y1 = x ⊖ x })) Beyond)))

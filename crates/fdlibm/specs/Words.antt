@@ -16,5 +16,5 @@ abbrev pub exponentOf : Float → ℕ
 exponentOf x = bitAnd (toBits binary64 x / 2 ^ 52) 0x7ff
 
 -- (__HI(x) & 0x7fffffff, __LO(x)) as one number: 0 for the two zeros
-abbrev pub magnitudeOf : Float → ℕ
-magnitudeOf x = bitAnd (toBits binary64 x) 0x7fffffffffffffff
+abbrev pub magnitudeBits : Float → ℕ
+magnitudeBits x = bitAnd (toBits binary64 x) 0x7fffffffffffffff

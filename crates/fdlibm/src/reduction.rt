@@ -3,7 +3,7 @@ ghost use mathlib.Core.Path.{_≡_};
 ghost use Prim.Native.Nat.{_<_};
 ghost use lib.Ieee.{toUnsigned};
 ghost use lib.ListN.{getD};
-ghost use Rattle.fdlibm.specs.Reduction.{npio2hw, remPio2, aboveOf, belowOf, mediumOf, backOf, firstOf, nextOf, carefulOf, settledOf};
+ghost use Rattle.fdlibm.specs.Reduction.{npio2hw, remPio2, aboveOf, belowOf, mediumOf, negatedOf, firstDifference, nextDifference, carefulOf, refinedOf};
 
 // The quadrant, n modulo 4, and the angle that is left: y0 with its tail y1.
 pub struct Reduction {
@@ -105,8 +105,8 @@ fn near_below(x: f64, ix: u64) -> Reduction
 }
 
 // t less n pi/2 with 33 digits of pi/2 taken exactly, the rest in w.
-fn first_step(t: f64, n: f64) -> Difference
-    ensures { λ r. ⌜ r ≡ firstOf t n ⌝ }
+fn first_difference(t: f64, n: f64) -> Difference
+    ensures { λ r. ⌜ r ≡ firstDifference t n ⌝ }
 {
     Difference {
         r: t - n * PIO2_1,
@@ -115,8 +115,8 @@ fn first_step(t: f64, n: f64) -> Difference
 }
 
 // 33 digits more: part holds them, and rest what comes after them.
-fn next_step(d: Difference, n: f64, part: f64, rest: f64) -> Difference
-    ensures { λ r. ⌜ r ≡ nextOf d n part rest ⌝ }
+fn next_difference(d: Difference, n: f64, part: f64, rest: f64) -> Difference
+    ensures { λ r. ⌜ r ≡ nextDifference d n part rest ⌝ }
 {
     let t = d.r;
     let w = n * part;
@@ -136,12 +136,12 @@ fn careful(d: Difference, n: f64, ix: u64) -> Difference
     if j <= e + 16 {
         return d;
     }
-    let d2 = next_step(d, n, PIO2_2, PIO2_2T);
+    let d2 = next_difference(d, n, PIO2_2, PIO2_2T);
     let e2 = (number::to_bits(d2.r - d2.w) >> 52) & 0x7ff;
     if j <= e2 + 49 {
         return d2;
     }
-    next_step(d2, n, PIO2_3, PIO2_3T)
+    next_difference(d2, n, PIO2_3, PIO2_3T)
 }
 
 // The high word of n pi/2, the C's table: it is that of n times the first part of pi/2, which the reduction forms anyway.
@@ -153,8 +153,8 @@ fn npio2_hw(n: u64) -> u64
 }
 
 // The quick test: an n below 32 whose n pi/2 has another high word than the angle needs no second step.
-fn settled(d: Difference, whole: u64, n: f64, ix: u64) -> Difference
-    ensures { λ r. ⌜ r ≡ settledOf d whole n ix ⌝ }
+fn refined(d: Difference, whole: u64, n: f64, ix: u64) -> Difference
+    ensures { λ r. ⌜ r ≡ refinedOf d whole n ix ⌝ }
 {
     if whole < 32 {
         if ix != npio2_hw(whole) {
@@ -170,7 +170,7 @@ fn medium(t: f64, ix: u64) -> Reduction
 {
     let whole = truncated(t * INVPIO2 + 0.5);
     let n = whole as f64;
-    let d = settled(first_step(t, n), whole, n, ix);
+    let d = refined(first_difference(t, n), whole, n, ix);
     let y0 = d.r - d.w;
     Reduction {
         quadrant: whole & 3,
@@ -180,8 +180,8 @@ fn medium(t: f64, ix: u64) -> Reduction
 }
 
 // The same for the angle of the other sign.
-fn turned_back(a: Reduction) -> Reduction
-    ensures { λ r. ⌜ r ≡ backOf a ⌝ }
+fn negated(a: Reduction) -> Reduction
+    ensures { λ r. ⌜ r ≡ negatedOf a ⌝ }
 {
     Reduction {
         quadrant: (4 - (a.quadrant & 3)) & 3,
@@ -214,7 +214,7 @@ pub(crate) fn rem_pio2(x: f64) -> Reduced
         if sign == 0 {
             Reduced::To(a)
         } else {
-            Reduced::To(turned_back(a))
+            Reduced::To(negated(a))
         }
     } else if 0x7ff0_0000 <= ix {
         Reduced::To(Reduction {

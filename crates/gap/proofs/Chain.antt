@@ -1,4 +1,4 @@
--- The arithmetic of the gap's error, on plain numbers: K is 2 ^ 53, J is K - 1, L is 2 ^ 1074, h is 2 ^ 52. Assumes nothing.
+-- The arithmetic of the gap's error, on plain numbers: K is 2 ^ 53, J is K - 1, L is 2 ^ 1074, h is 2 ^ 52.
 use mathlib.Core.Path.{_≡_, sym}
 use Prim.Native.Nat.{ℕ, _+_, _-_, _*_, _^_, _≤_}
 use native.Mathlib.Nat.{le-refl, le-trans, le-of-eq, mul-comm, mul-assoc, mul-left-comm, mul-right-comm, mul-le-mul, mul-le-mul-right, mul-le-mul-left, le-of-mul-le-mul-right, mul-one, add-le-add, add-mul, mul-add}

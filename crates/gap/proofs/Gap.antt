@@ -1,5 +1,5 @@
 -- The computed gap of two points: it does not depend on their order, and where it is at most c, for a c from 2 ^ -40 on, the exact squared gap is at most
--- c * c * (1 + 2 ^ -50). Assumes nothing.
+-- c * c * (1 + 2 ^ -50).
 use mathlib.Core.Path.{_≡_, refl, sym, ap, _∙_, subst}
 use Prim.Native.Nat.{ℕ, _+_, _-_, _*_, _^_, _≤_}
 use native.Mathlib.Nat.{le-trans}
@@ -13,7 +13,7 @@ use lib.Ieee.Fits.{add-fits, sub-fits, and-l, and-r}
 use lib.Ieee.Scale.{grid, finite}
 use Rattle.number.specs.Operators.{bits, _⊕_, _⊖_, _⊗_, _≤?_}
 use Rattle.number.specs.Helpers.{one}
-use Rattle.number.specs.Units.{unit, mag, neg?, inUnits}
+use Rattle.number.specs.Units.{unitsInOne, mag, neg?, inUnits}
 use Rattle.number.proofs.Values.{Is, is-own, whole, sum-mag, sub-is, apart}
 use Rattle.number.proofs.Rounding.{whole-over}
 use Rattle.number.proofs.Finite.{add-finite, sub-finite, mul-finite}
@@ -27,7 +27,7 @@ use Rattle.geometry.specs.declared.point.Point3D.{Point3D}
 use Rattle.geometry.specs.declared.tolerance.Tolerance.{Tolerance}
 use Rattle.geometry.specs.Tolerance.{leastConfusion, toleranceFit}
 use Rattle.geometry.specs.Vector.{squareMagnitudeOf, magnitudeOf}
-use Rattle.geometry.specs.Point.{distanceOf, fromOf, squareOf, exactSquare}
+use Rattle.geometry.specs.Point.{distanceOf, differenceOf, squareOf, exactSquare}
 use Rattle.gap.specs.Gap.{PointFits, PointFinite, ExactlyWithin}
 use Rattle.gap.proofs.Chain.{chain, final}
 
@@ -48,8 +48,8 @@ unfolding distanceOf squares
 distance-swap p q = ap sqrtOf (squares-swap (p .x) (p .y) (p .z) (q .x) (q .y) (q .z))
 
 -- the magnitude of the difference of two points is their gap
-pub magnitude-is-gap : (p q : Point3D) → magnitudeOf (fromOf p q) ≡ distanceOf p q
-unfolding magnitudeOf squareMagnitudeOf fromOf distanceOf squares
+pub magnitude-is-gap : (p q : Point3D) → magnitudeOf (differenceOf p q) ≡ distanceOf p q
+unfolding magnitudeOf squareMagnitudeOf differenceOf distanceOf squares
 magnitude-is-gap p q = ap sqrtOf (sym (squares-swap (p .x) (p .y) (p .z) (q .x) (q .y) (q .z)))
 
 -- ---- one coordinate
@@ -62,8 +62,8 @@ difference-over : (x y : Float) → T (fits binary64 x) → T (fits binary64 y) 
 difference-over x y fx fy h =
     let f = sub-finite x y h in
     let e = sub-is x y (neg? x) (neg? y) (mag x) (mag y) (whole x fx (f .0)) (whole y fy (f .1)) in
-    let m : mag (x ⊖ y) ≡ grid binary64 (between x y) unit = ap mag e ∙ sum-mag (neg? x) (neg? y) (mag x) (mag y) (subst (λ (v : Float). T (finite v)) e h) in
-    subst (λ (k : ℕ). between x y * (2 ^ 53 - 1) ≤ k * 2 ^ 53) (sym m) (whole-over (between x y) unit (pow-pos 1074))
+    let m : mag (x ⊖ y) ≡ grid binary64 (between x y) unitsInOne = ap mag e ∙ sum-mag (neg? x) (neg? y) (mag x) (mag y) (subst (λ (v : Float). T (finite v)) e h) in
+    subst (λ (k : ℕ). between x y * (2 ^ 53 - 1) ≤ k * 2 ^ 53) (sym m) (whole-over (between x y) unitsInOne (pow-pos 1074))
 
 -- ---- the law on six coordinates
 
@@ -124,7 +124,7 @@ module _ (ax ay az bx by bz c : Float) (hc : T (finite c)) (l : T (sqrtOf (squar
         let total = squareOf (between ax bx) + squareOf (between ay by) + squareOf (between az bz) in
         eighth total (mag c * mag c)
         (final total (mag c) big
-        (chain (between ax bx) (between ay by) (between az bz) (mag dx) (mag dy) (mag dz) (mag (dx ⊗ dx)) (mag (dy ⊗ dy)) (mag (dz ⊗ dz)) (mag s1) (mag s) (mag (sqrtOf s)) (mag c) (2 ^ 53) (2 ^ 53 - 1) unit (2 ^ 52)
+        (chain (between ax bx) (between ay by) (between az bz) (mag dx) (mag dy) (mag dz) (mag (dx ⊗ dx)) (mag (dy ⊗ dy)) (mag (dz ⊗ dz)) (mag s1) (mag s) (mag (sqrtOf s)) (mag c) (2 ^ 53) (2 ^ 53 - 1) unitsInOne (2 ^ 52)
         (lit≤ tt)
         (difference-over ax bx fax fbx (mul-finite dx dx (first-two .0) .0)) (difference-over ay by fay fby (mul-finite dy dy (first-two .1) .0)) (difference-over az bz faz fbz (mul-finite dz dz (last-two .1) .0))
         (px .over) (py .over) (pz .over) (e1 .1) (e2 .1) (g .over) (le→mag (sqrtOf s) c (under .finite-root) hc (sqrt-sign s fs (under .finite-x) ns) l)))
@@ -164,10 +164,10 @@ least-under c h low = le-trans least (le→mag leastConfusion c (unfold ofBits i
     least : 2 ^ 1034 ≤ mag leastConfusion
     least = unfold ofBits in lit≤ tt
 
-pub under-one : (c : Float) → T (finite c) → neg? c ≡ false → T (c ≤? one) → mag c ≤ unit
+pub under-one : (c : Float) → T (finite c) → neg? c ≡ false → T (c ≤? one) → mag c ≤ unitsInOne
 under-one c h s high = le-trans (le→mag c one h (unfold ofBits in tt) s high) most
   where
-    most : mag one ≤ unit
+    most : mag one ≤ unitsInOne
     most = unfold ofBits in lit≤ tt
 
 -- THE EXACT-GAP THEOREM. Take any two points with coordinates of binary64, and any c from 2 ^ -40 to 1. If the gap that the computer works out is at most c,

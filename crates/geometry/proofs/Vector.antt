@@ -1,4 +1,4 @@
--- A number times a vector is the vector times the number, bit for bit: `scale` serves for both. Assumes nothing.
+-- A number times a vector is the vector times the number, bit for bit: `scale` serves for both.
 use mathlib.Core.Path.{_≡_}
 use lib.Ieee.{Float}
 use Rattle.number.proofs.Symmetry.{mul-swap}

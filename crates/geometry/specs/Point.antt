@@ -27,8 +27,8 @@ unfoldable pub addVectorOf : Point3D → Vector3D → Point3D
 addVectorOf p v = record { x = p .x ⊕ v .x; y = p .y ⊕ v .y; z = p .z ⊕ v .z }
 
 -- Point3D - Point3D of point.rs
-unfoldable pub fromOf : Point3D → Point3D → Vector3D
-fromOf p q = record { x = p .x ⊖ q .x; y = p .y ⊖ q .y; z = p .z ⊖ q .z }
+unfoldable pub differenceOf : Point3D → Point3D → Vector3D
+differenceOf p q = record { x = p .x ⊖ q .x; y = p .y ⊖ q .y; z = p .z ⊖ q .z }
 
 -- the three coordinates of a point under 1, 17 and 18
 unfoldable pub pointFit : Point3D → Bool

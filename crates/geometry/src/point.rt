@@ -1,7 +1,7 @@
 use crate::vector::Vector3D;
 ghost use mathlib.Core.Path.{_≡_};
 ghost use Rattle.number.specs.Operators.{_≤?_};
-ghost use Rattle.geometry.specs.Point.{pointOf, distanceOf, addVectorOf, fromOf, pointFit};
+ghost use Rattle.geometry.specs.Point.{pointOf, distanceOf, addVectorOf, differenceOf, pointFit};
 
 pub struct Point3D {
     pub x: f64,
@@ -46,7 +46,7 @@ impl Point3D {
 
     // Point - point.
     pub fn sub(self, other: Point3D) -> Vector3D
-        ensures { λ r. ⌜ r ≡ fromOf self other ⌝ }
+        ensures { λ r. ⌜ r ≡ differenceOf self other ⌝ }
     {
         Vector3D {
             x: self.x - other.x,

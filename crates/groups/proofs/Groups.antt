@@ -1,4 +1,4 @@
--- The laws of groups in a flat list, for every width. Assumes nothing.
+-- The laws of groups in a flat list, for every width.
 use mathlib.Core.Path.{_≡_, refl, sym, subst, _∙_}
 use mathlib.Core.Bool.{Bool, true, false}
 use mathlib.Core.List.{List}

@@ -1,4 +1,4 @@
--- The laws of the numbers of one point. Assumes nothing.
+-- The laws of the numbers of one point.
 use mathlib.Core.Path.{_≡_, ap}
 use mathlib.Core.List.{List}
 use Prim.Native.Nat.{ℕ, _+_, _*_, _/_, _≤_}

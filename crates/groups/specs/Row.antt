@@ -3,9 +3,9 @@ use mathlib.Core.List.{List, [], _∷_}
 use Prim.Native.Nat.{ℕ, _+_, _*_, _/_}
 use lib.Dec.{ltb}
 use lib.ListN.{length, getD}
-use lib.Ieee as Ieee
-use lib.Ieee.{Float, nan, binary64}
+use lib.Ieee.{Float, nan}
 use Rattle.loops.specs.Loop.{pick}
+use Rattle.number.specs.Helpers.{positiveZero}
 use Rattle.geometry.specs.declared.point.Point3D.{Point3D}
 use Rattle.groups.specs.declared.row.Row.{Row}
 use Rattle.groups.specs.Groups.{width}
@@ -34,13 +34,9 @@ rowAt l i = rowFrom l (width * i)
 abbrev pub pointAt : List Float → ℕ → Point3D
 pointAt l i = record { x = rowAt l i .x; y = rowAt l i .y; z = rowAt l i .z }
 
--- positive zero
-abbrev pub zero : Float
-zero = Ieee.ofBits binary64 0
-
 -- seven zeros
 abbrev pub noRow : Row
-noRow = record { x = zero; y = zero; z = zero; u1 = zero; v1 = zero; u2 = zero; v2 = zero }
+noRow = record { x = positiveZero; y = positiveZero; z = positiveZero; u1 = positiveZero; v1 = positiveZero; u2 = positiveZero; v2 = positiveZero }
 
 -- the numbers of point i of any list: zeros where it has no point i
 unfoldable pub rowOf : List Float → ℕ → Row

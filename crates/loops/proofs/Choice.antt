@@ -1,4 +1,4 @@
--- The laws of choices: what a way out of nested tests gives, from the facts that it passed. Assumes nothing.
+-- The laws of choices: what a way out of nested tests gives, from the facts that it passed.
 use mathlib.Core.Path.{_≡_}
 use mathlib.Core.Bool.{Bool, true, false, _&&_}
 use Rattle.loops.specs.Loop.{pick}

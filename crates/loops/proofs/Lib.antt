@@ -1,3 +1,3 @@
 pub mod Choice
 pub mod Loop
-pub mod Some
+pub mod Any

@@ -1,20 +1,20 @@
--- The laws of loops: what a loop's proof cites after a turn and after the last one. Assumes nothing.
+-- The laws of loops: what a loop's proof cites after a turn and after the last one.
 use mathlib.Core.Path.{_≡_, refl, ap, sym, subst, _∙_}
 use Prim.Native.Nat.{ℕ, zero, suc, _+_, _-_, _≤_, _<_}
 use native.Mathlib.Omega.{arith}
-use Rattle.loops.specs.Loop.{turns, ranged, Flow, on, out, exits, searched}
+use Rattle.loops.specs.Loop.{iterated, ranged, Flow, on, out, exits, searched}
 
 pub ranged-end : {S : Type 0} (f : ℕ → S → S) (a b : ℕ) (s : S) → b ≤ a → ranged f a b s ≡ s
-unfolding turns
+unfolding iterated
 ranged-end f a b s h =
     let e : b - a ≡ 0 = omega arith in
-    ap (λ (k : ℕ). turns f k a s) e
+    ap (λ (k : ℕ). iterated f k a s) e
 
 pub ranged-step : {S : Type 0} (f : ℕ → S → S) (a b : ℕ) (s : S) → a < b → ranged f a b s ≡ ranged f (a + 1) b (f a s)
-unfolding turns
+unfolding iterated
 ranged-step f a b s h =
     let e : b - a ≡ suc (b - (a + 1)) = omega arith in
-    ap (λ (k : ℕ). turns f k a s) e
+    ap (λ (k : ℕ). iterated f k a s) e
 
 -- a counting loop: the invariant after a turn, and what it says after the loop
 pub ranged-again : {S : Type 0} (f : ℕ → S → S) (a b : ℕ) {s t u : S} → a < b → t ≡ f a s → ranged f a b s ≡ u → ranged f (a + 1) b t ≡ u

@@ -1,2 +1,2 @@
 pub mod Loop
-pub mod Some
+pub mod Any

@@ -8,13 +8,13 @@ pick true x y = x
 pick false x y = y
 
 -- `for i in i..i + k { s = f(i, s) }`
-unfoldable pub turns : {S : Type 0} → (ℕ → S → S) → ℕ → ℕ → S → S
-turns f zero i s = s
-turns f (suc k) i s = turns f k (i + 1) (f i s)
+unfoldable pub iterated : {S : Type 0} → (ℕ → S → S) → ℕ → ℕ → S → S
+iterated f zero i s = s
+iterated f (suc k) i s = iterated f k (i + 1) (f i s)
 
 -- `for i in a..b { s = f(i, s) }`
 abbrev pub ranged : {S : Type 0} → (ℕ → S → S) → ℕ → ℕ → S → S
-ranged f a b s = turns f (b - a) a s
+ranged f a b s = iterated f (b - a) a s
 
 -- what a turn of a loop with an early way out gives: the state to go on with, or the answer
 pub data Flow (S R : Type 0) : Type 0 where

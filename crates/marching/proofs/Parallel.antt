@@ -1,4 +1,4 @@
--- The quick test of `parallel`: roots of moderate numbers, from the smallest normal number to 2^20, have a product of at most 2^20. Assumes nothing.
+-- The quick test of `parallel`: roots of moderate numbers, from the smallest normal number to 2^20, have a product of at most 2^20.
 use mathlib.Core.Path.{_≡_, refl, sym, subst}
 use mathlib.Core.Bool.{Bool, true, false, not, cond}
 use lib.Dec.{T}

@@ -28,8 +28,8 @@ considerOf so w k x y =
     (pick (y <? w .low) (lesserOf so k (w .low) (fractionOf (w .low) x y)) so))
 
 -- the first exit of the four, u1, v1, u2, v2 in turn
-unfoldable pub firstOf : Patch → Patch → Parameters → Parameters → First
-firstOf a b x y =
+unfoldable pub firstExit : Patch → Patch → Parameters → Parameters → First
+firstExit a b x y =
     considerOf (considerOf (considerOf (considerOf first.Nothing (a .u) 0 (x .u1) (y .u1)) (a .v) 1 (x .v1) (y .v1)) (b .u) 2 (x .u2) (y .u2)) (b .v) 3 (x .v2) (y .v2)
 
 -- the answer of `leaving`: index and bound, without the fraction
@@ -39,4 +39,4 @@ exitOf (first.At k bound fraction) = exit.At k bound
 
 -- `leaving` of the move from x to y
 unfoldable pub leavingOf : Patch → Patch → Parameters → Parameters → Exit
-leavingOf a b x y = exitOf (firstOf a b x y)
+leavingOf a b x y = exitOf (firstExit a b x y)

@@ -3,7 +3,7 @@ use patch::Parameters;
 use patch::Patch;
 use patch::Window;
 ghost use mathlib.Core.Path.{_≡_};
-ghost use Rattle.marching.specs.Leaving.{lesserOf, considerOf, firstOf, leavingOf};
+ghost use Rattle.marching.specs.Leaving.{lesserOf, considerOf, firstExit, leavingOf};
 
 // The parameter that a move takes out of its window first, and the bound that it oversteps.
 pub enum Exit {
@@ -53,7 +53,7 @@ fn consider(first: First, window: Window, k: usize, x: f64, y: f64) -> First
 
 // The first exit of the four parameters in turn.
 fn first_exit(a: Patch, b: Patch, x: Parameters, y: Parameters) -> First
-    ensures { λ r. ⌜ r ≡ firstOf a b x y ⌝ }
+    ensures { λ r. ⌜ r ≡ firstExit a b x y ⌝ }
 {
     let u1 = a.u;
     let v1 = a.v;

@@ -1,4 +1,4 @@
--- The definitions compute: two equal planes meet at once, and planes one apart do not meet. Assumes nothing.
+-- The definitions compute: two equal planes meet at once, and planes one apart do not meet.
 use mathlib.Core.Path.{_≡_, refl}
 use mathlib.Core.Bool.{false}
 use lib.Ieee as Ieee
@@ -7,7 +7,7 @@ use Rattle.number.specs.Operators.{bits}
 use Rattle.sqrt.specs.Sqrt.{sqrtOf}
 use Rattle.geometry.specs.Tolerance.{defaultTolerance}
 use Rattle.geometry.specs.Vector.{vectorOf, zeroVector, dotOf, crossOf, squareMagnitudeOf, magnitudeOf, negOf, scaleOf}
-use Rattle.geometry.specs.Point.{pointOf, fromOf, addVectorOf}
+use Rattle.geometry.specs.Point.{pointOf, differenceOf, addVectorOf}
 use Rattle.geometry.specs.Frame.{pointAtOf}
 use Rattle.analytic.specs.declared.surface.Surface.the-variants.{Plane}
 use Rattle.analytic.specs.Analytic.{planeD0, planeDerivatives}
@@ -18,12 +18,12 @@ use Rattle.patch.specs.declared.patch.Parameters.{Parameters}
 use Rattle.patch.specs.Patch.{insideOf, windowHolds, boundedOf, withinBounds}
 use Rattle.solve.proofs.Computing as solve
 use Rattle.meeting.specs.declared.newton.Met.the-variants.{At, Nothing}
-use Rattle.meeting.specs.Step.{offsetOf, residualOf, columnsOf, dot4Of, normalMatrix, freeStep, newtonStep, shiftedOf}
-use Rattle.meeting.specs.Newton.{nearOf, trialsOf, lastTest, roundOf, newtonOf, meetOf}
+use Rattle.meeting.specs.Correction.{offsetOf, residualOf, columnsOf, dot4Of, normalMatrix, freeCorrection, correctionOf, shiftedOf}
+use Rattle.meeting.specs.Newton.{nearOf, trialsOf, lastTest, newtonRound, newtonOf, meetOf}
 
 -- opens what an evaluation of a meeting of planes needs
 unfoldable pub computing : Unit {0}
-unfolding meetOf newtonOf roundOf lastTest trialsOf nearOf shiftedOf newtonStep freeStep normalMatrix dot4Of columnsOf residualOf offsetOf withinBounds boundedOf windowHolds insideOf evalPoint evalD1 planeD0 planeDerivatives pointAtOf fromOf addVectorOf pointOf scaleOf negOf magnitudeOf squareMagnitudeOf crossOf dotOf vectorOf zeroVector defaultTolerance sqrtOf solve.computing Ieee.neg
+unfolding meetOf newtonOf newtonRound lastTest trialsOf nearOf shiftedOf correctionOf freeCorrection normalMatrix dot4Of columnsOf residualOf offsetOf withinBounds boundedOf windowHolds insideOf evalPoint evalD1 planeD0 planeDerivatives pointAtOf differenceOf addVectorOf pointOf scaleOf negOf magnitudeOf squareMagnitudeOf crossOf dotOf vectorOf zeroVector defaultTolerance sqrtOf solve.computing Ieee.neg
 computing = tt
 
 abbrev window : Window

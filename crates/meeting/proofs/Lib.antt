@@ -1,4 +1,4 @@
 pub mod Rounds
 pub mod Symmetric
-pub mod Good
+pub mod Intersection
 pub mod Evaluated

@@ -1,11 +1,11 @@
--- The normal matrix is symmetric bit for bit: a product does not depend on the order of its factors, so six sums give all nine. Assumes nothing.
+-- The normal matrix is symmetric bit for bit: a product does not depend on the order of its factors, so six sums give all nine.
 use mathlib.Core.Path.{_≡_}
 use mathlib.Core.List.{List, [], _∷_}
 use lib.Ieee.{Float}
 use Rattle.number.proofs.Symmetry.{mul-swap}
 use Rattle.geometry.specs.declared.vector.Vector3D.{Vector3D}
-use Rattle.meeting.specs.declared.step.Columns.{Columns}
-use Rattle.meeting.specs.Step.{dot4Of, rowDot, normalMatrix}
+use Rattle.meeting.specs.declared.correction.Columns.{Columns}
+use Rattle.meeting.specs.Correction.{dot4Of, rowDot, normalMatrix}
 
 -- the sum of four products, the factors of each exchanged
 row-swap : (c : Columns) (p q : Vector3D → Float) → rowDot c p q ≡ rowDot c q p

@@ -1,4 +1,4 @@
 pub mod Parameters
-pub mod Step
+pub mod Correction
 pub mod Newton
-pub mod Good
+pub mod Intersection

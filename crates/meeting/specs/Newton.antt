@@ -12,11 +12,11 @@ use Rattle.geometry.specs.Vector.{magnitudeOf}
 use Rattle.patch.specs.declared.patch.Patch.{Patch}
 use Rattle.patch.specs.declared.patch.Parameters.{Parameters}
 use Rattle.patch.specs.Patch.{insideOf, withinBounds}
-use Rattle.meeting.specs.declared.step.Target.{Target}
-use Rattle.meeting.specs.declared.step.Target.the-variants.{Free, Plane, Pin}
-use Rattle.meeting.specs.declared.step.Residual.{Residual}
-use Rattle.meeting.specs.declared.step.Step.{Step}
-use Rattle.meeting.specs.declared.step.Step.the-variants as step
+use Rattle.meeting.specs.declared.correction.Target.{Target}
+use Rattle.meeting.specs.declared.correction.Target.the-variants.{Free, Plane, Pin}
+use Rattle.meeting.specs.declared.correction.Residual.{Residual}
+use Rattle.meeting.specs.declared.correction.Correction.{Correction}
+use Rattle.meeting.specs.declared.correction.Correction.the-variants as step
 use Rattle.meeting.specs.declared.newton.Met.{Met}
 use Rattle.meeting.specs.declared.newton.Met.the-variants.{At, Nothing}
 use Rattle.meeting.specs.declared.newton.Trial.{Trial}
@@ -24,7 +24,7 @@ use Rattle.meeting.specs.declared.newton.Trial.the-variants as trial
 use Rattle.meeting.specs.declared.newton.Round.{Round}
 use Rattle.meeting.specs.declared.newton.Round.the-variants as round
 use Rattle.meeting.specs.Parameters.{withParameter}
-use Rattle.meeting.specs.Step.{residualOf, newtonStep, shiftedOf}
+use Rattle.meeting.specs.Correction.{residualOf, correctionOf, shiftedOf}
 
 -- gap and plane offset at most a bound; "Both tests also ask that every parameter lie inside its window where that has no turn mark"
 unfoldable pub nearOf : Patch → Patch → Residual → Float → Bool
@@ -37,8 +37,8 @@ abbrev pub trialAt : Residual → Residual → Float → Flow Float Trial
 trialAt s t scale = pick (t .merit <? s .merit) (out (trial.Better t)) (on (scale ⊗ half))
 
 -- a trial: the step scaled, clamped to the windows, its residual
-abbrev pub trialStep : Patch → Patch → Target → Residual → Parameters → ℕ → Float → Flow Float Trial
-trialStep a b target s d i scale = trialAt s (residualOf a b target (withinBounds a b (shiftedOf target (s .x) d scale))) scale
+abbrev pub trialBody : Patch → Patch → Target → Residual → Parameters → ℕ → Float → Flow Float Trial
+trialBody a b target s d i scale = trialAt s (residualOf a b target (withinBounds a b (shiftedOf target (s .x) d scale))) scale
 
 -- the 12 trials are spent, none was better
 abbrev pub noTrial : Float → Trial
@@ -46,7 +46,7 @@ noTrial scale = trial.Nothing
 
 -- the trials from the i-th on
 abbrev pub trialsFrom : Patch → Patch → Target → Residual → Parameters → ℕ → Float → Trial
-trialsFrom a b target s d i scale = searched (trialStep a b target s d) noTrial i 12 (on scale)
+trialsFrom a b target s d i scale = searched (trialBody a b target s d) noTrial i 12 (on scale)
 
 -- all 12, from the scale 1.0
 unfoldable pub trialsOf : Patch → Patch → Target → Residual → Parameters → Trial
@@ -64,14 +64,14 @@ afterTrials a b confusion s (trial.Better t) = round.Next t
 afterTrials a b confusion s trial.Nothing = round.End (lastTest a b confusion s)
 
 -- "A failed solve refuses, even where that last test would pass."
-abbrev pub afterSolve : Patch → Patch → Target → Float → Residual → Step → Round
+abbrev pub afterSolve : Patch → Patch → Target → Float → Residual → Correction → Round
 afterSolve a b target confusion s (step.By d) = afterTrials a b confusion s (trialsOf a b target s d)
 afterSolve a b target confusion s step.Singular = round.End Nothing
 
 -- "accepted at once when gap and plane offset are at most a tenth of confusion; else a solve, and up to 12 trials"
-unfoldable pub roundOf : Patch → Patch → Target → Float → Residual → Round
-roundOf a b target confusion s =
-    pick (nearOf a b s (tenth ⊗ confusion)) (round.End (At (s .x))) (afterSolve a b target confusion s (newtonStep a b target s))
+unfoldable pub newtonRound : Patch → Patch → Target → Float → Residual → Round
+newtonRound a b target confusion s =
+    pick (nearOf a b s (tenth ⊗ confusion)) (round.End (At (s .x))) (afterSolve a b target confusion s (correctionOf a b target s))
 
 -- ---- "at most 32 rounds"
 
@@ -81,12 +81,12 @@ goingOn (round.Next t) = on t
 goingOn (round.End m) = out m
 
 -- one turn of the loop
-abbrev pub roundStep : Patch → Patch → Target → Float → ℕ → Residual → Flow Residual Met
-roundStep a b target confusion i s = goingOn (roundOf a b target confusion s)
+abbrev pub roundBody : Patch → Patch → Target → Float → ℕ → Residual → Flow Residual Met
+roundBody a b target confusion i s = goingOn (newtonRound a b target confusion s)
 
 -- the rounds from the i-th on, then the last test
 abbrev pub roundsFrom : Patch → Patch → Target → Float → ℕ → Residual → Met
-roundsFrom a b target confusion i s = searched (roundStep a b target confusion) (lastTest a b confusion) i 32 (on s)
+roundsFrom a b target confusion i s = searched (roundBody a b target confusion) (lastTest a b confusion) i 32 (on s)
 
 -- all 32, from the residual at x
 unfoldable pub newtonOf : Patch → Patch → Target → Parameters → Float → Met

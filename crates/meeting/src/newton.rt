@@ -1,11 +1,11 @@
 // Newton's method of the Rust's `meet` and `land`: they differ in what is solved beside the meeting and in where they start.
+use crate::correction::Correction;
+use crate::correction::Residual;
+use crate::correction::Target;
+use crate::correction::newton_correction;
+use crate::correction::residual_at;
+use crate::correction::shifted;
 use crate::parameters::with_parameter;
-use crate::step::Residual;
-use crate::step::Step;
-use crate::step::Target;
-use crate::step::newton_step;
-use crate::step::residual_at;
-use crate::step::shifted;
 use geometry::Point3D;
 use geometry::Tolerance;
 use geometry::Vector3D;
@@ -14,7 +14,7 @@ use patch::Patch;
 use patch::inside;
 use patch::within_bounds;
 ghost use mathlib.Core.Path.{_≡_};
-ghost use Rattle.meeting.specs.Newton.{nearOf, trialsOf, lastTest, roundOf, newtonOf, meetOf, meetInPlaneOf, landOf};
+ghost use Rattle.meeting.specs.Newton.{nearOf, trialsOf, lastTest, newtonRound, newtonOf, meetOf, meetInPlaneOf, landOf};
 
 // Where the surfaces were met, or that they were not.
 pub enum Met {
@@ -82,14 +82,14 @@ fn last_test(a: Patch, b: Patch, confusion: f64, s: Residual) -> Met
 
 // One round: accepted at once, or a step and its trials.
 fn newton_round(a: Patch, b: Patch, target: Target, confusion: f64, s: Residual) -> Round
-    ensures { λ r. ⌜ r ≡ roundOf a b target confusion s ⌝ }
+    ensures { λ r. ⌜ r ≡ newtonRound a b target confusion s ⌝ }
 {
     if near(a, b, s, 0.1 * confusion) {
         let x = s.x;
         return Round::End(Met::At(x));
     }
-    let step = newton_step(a, b, target, s);
-    let Step::By(d) = step else {
+    let step = newton_correction(a, b, target, s);
+    let Correction::By(d) = step else {
         return Round::End(Met::Nothing);
     };
     let trial = trials(a, b, target, s, d);

@@ -1,4 +1,4 @@
--- `compare` of two whole numbers, by how they stand to each other. Assumes nothing.
+-- `compare` of two whole numbers, by how they stand to each other.
 use mathlib.Core.Path.{_≡_, refl, ap, subst⁻¹}
 use Prim.Native.Nat.{ℕ, zero, suc, _*_, _<_, suc-le-suc, compare, Ordering, Ordering·lt, Ordering·eq, Ordering·gt, compare·zero-zero, compare·zero-suc, compare·suc-zero, compare·suc-suc}
 use native.Mathlib.Nat.{zero-lt-suc, mul-lt-mul-of-pos-right}

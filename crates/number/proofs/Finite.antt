@@ -1,4 +1,4 @@
--- A finite result comes of finite operands. Assumes nothing.
+-- A finite result comes of finite operands.
 use mathlib.Core.Bool.{Bool, true, false, Bool·beq, cond}
 use lib.Dec.{T, eqb}
 use lib.Ieee.{Float, nan, inf, fin, binary64, unlike, neg, add, sub, mul}

@@ -1,4 +1,4 @@
--- The values of binary64 among the whole numbers of units: none lies between two neighbours. Assumes nothing.
+-- The values of binary64 among the whole numbers of units: none lies between two neighbours.
 use mathlib.Core.Path.{_≡_, sym, ap, _∙_, subst}
 use Prim.Native.Nat.{ℕ, _+_, _-_, _*_, _^_, _≤_, _<_}
 use native.Mathlib.Nat.{le-trans, le-of-eq, le-of-lt, lt-of-le-of-lt, lt-of-not-le, not-le-of-lt, mul-assoc, mul-le-mul-right, lt-of-mul-lt-mul-right}

@@ -1,5 +1,5 @@
 -- `<` and `<=` order the numbers of binary64, the infinities among them, and are false at a NaN: reflexive, transitive, total, and `<` is "not >=".
--- On finite numbers the order is that of the whole numbers of units. Assumes nothing.
+-- On finite numbers the order is that of the whole numbers of units.
 use mathlib.Core.Path.{_≡_, refl, sym, ap, _∙_, subst}
 use mathlib.Core.Logic.{_⊎_, inl, inr}
 use Prim.Native.Nat.{ℕ, zero, suc, _+_, _-_, _*_, _/_, _≤_, _<_, zero-le}
@@ -16,7 +16,7 @@ use lib.Ieee.Fits.{down-pos, eq→eqb}
 use lib.Ieee.Scale.{finite, round-same}
 use lib.Ieee.Order.{round-mono}
 use Rattle.number.specs.Operators.{_<?_, _≤?_}
-use Rattle.number.specs.Units.{unit, mag, neg?, signed, inUnits}
+use Rattle.number.specs.Units.{unitsInOne, mag, neg?, signed, inUnits}
 use Rattle.number.proofs.Values.{Is, whole, both-ways}
 use Rattle.number.proofs.Symmetry.{round-neg}
 
@@ -330,7 +330,7 @@ le→units (inf u) y s t a b p q h = absurd p
 le→units (fin u m e) nan s t a b p q h = absurd q
 le→units (fin u m e) (inf v) s t a b p q h = absurd q
 le→units (fin u m e) (fin v n d) s t a b p q h =
-    Le-uncross s t (m * up e) (n * up d) (down e) (down d) a b unit (down-pos e) (down-pos d) (pow-pos 1074) (p .1) (q .1)
+    Le-uncross s t (m * up e) (n * up d) (down e) (down d) a b unitsInOne (down-pos e) (down-pos d) (pow-pos 1074) (p .1) (q .1)
     (subst (λ (k : Bool). Le k (m * up e * down d) t (n * up d * down e)) (p .0) (subst (λ (k : Bool). Le u (m * up e * down d) k (n * up d * down e)) (q .0) (le→Le u v m n e d h)))
 
 pub units→le : (x y : Float) (s t : Bool) (a b : ℕ) → Is x s a → Is y t b → Le s a t b → T (x ≤? y)
@@ -341,7 +341,7 @@ units→le (fin u m e) (inf v) s t a b p q h = absurd q
 units→le (fin u m e) (fin v n d) s t a b p q h =
     Le→le u v m n e d
     (subst (λ (k : Bool). Le k (m * up e * down d) v (n * up d * down e)) (sym (p .0)) (subst (λ (k : Bool). Le s (m * up e * down d) k (n * up d * down e)) (sym (q .0))
-    (Le-cross s t (m * up e) (n * up d) (down e) (down d) a b unit (down-pos e) (down-pos d) (pow-pos 1074) (p .1) (q .1) h)))
+    (Le-cross s t (m * up e) (n * up d) (down e) (down d) a b unitsInOne (down-pos e) (down-pos d) (pow-pos 1074) (p .1) (q .1) h)))
 
 -- The whole units in a number, whatever its format, keep the order of numbers; and as many units as there are in a number are at most it.
 pub le→mag : (x y : Float) → T (finite x) → T (finite y) → neg? x ≡ false → T (x ≤? y) → mag x ≤ mag y
@@ -351,18 +351,18 @@ le→mag (fin u m e) nan f g s h = absurd g
 le→mag (fin u m e) (inf v) f g s h = absurd g
 le→mag (fin u m e) (fin v n d) f g s h = go v (subst (λ (k : Bool). Le k (m * up e * down d) v (n * up d * down e)) s (le→Le u v m n e d h))
   where
-    go : (t : Bool) → Le false (m * up e * down d) t (n * up d * down e) → m * up e * unit / down e ≤ n * up d * unit / down d
+    go : (t : Bool) → Le false (m * up e * down d) t (n * up d * down e) → m * up e * unitsInOne / down e ≤ n * up d * unitsInOne / down d
     go false k =
         le-div-iff-mul-le (down-pos d) .1
         (le-of-mul-le-mul-right {k = down e}
-        (le-trans (le-of-eq (mul-right-comm (m * up e * unit / down e) (down d) (down e)))
-        (le-trans (mul-le-mul-right (down d) (div-mul-le-self (m * up e * unit) (down e)))
-        (le-trans (le-of-eq (mul-right-comm (m * up e) unit (down d)))
-        (le-trans (mul-le-mul-right unit k) (le-of-eq (mul-right-comm (n * up d) (down e) unit))))))
+        (le-trans (le-of-eq (mul-right-comm (m * up e * unitsInOne / down e) (down d) (down e)))
+        (le-trans (mul-le-mul-right (down d) (div-mul-le-self (m * up e * unitsInOne) (down e)))
+        (le-trans (le-of-eq (mul-right-comm (m * up e) unitsInOne (down d)))
+        (le-trans (mul-le-mul-right unitsInOne k) (le-of-eq (mul-right-comm (n * up d) (down e) unitsInOne))))))
         (down-pos e))
     go true k =
         let z = none (m * up e) (down d) (down-pos d) (omega (arith, k)) in
-        subst (λ (i : ℕ). i * unit / down e ≤ n * up d * unit / down d) (sym z) (le-trans (le-of-eq (ap (λ (i : ℕ). i / down e) (zero-mul unit) ∙ zero-div (down e))) zero-le)
+        subst (λ (i : ℕ). i * unitsInOne / down e ≤ n * up d * unitsInOne / down d) (sym z) (le-trans (le-of-eq (ap (λ (i : ℕ). i / down e) (zero-mul unitsInOne) ∙ zero-div (down e))) zero-le)
 
 pub mag→le : (x y : Float) (a : ℕ) → Is x false a → T (finite y) → neg? y ≡ false → a ≤ mag y → T (x ≤? y)
 mag→le nan y a p f s h = absurd p
@@ -375,9 +375,9 @@ mag→le (fin u m e) (fin v n d) a p f s h =
   where
     below : m * up e * down d ≤ n * up d * down e
     below =
-        le-of-mul-le-mul-right {k = unit}
-        (le-trans (le-of-eq (mul-right-comm (m * up e) (down d) unit ∙ ap (λ (i : ℕ). i * down d) (p .1) ∙ mul-right-comm a (down e) (down d)))
-        (le-trans (mul-le-mul-right (down e) (le-div-iff-mul-le (down-pos d) .0 h)) (le-of-eq (mul-right-comm (n * up d) unit (down e)))))
+        le-of-mul-le-mul-right {k = unitsInOne}
+        (le-trans (le-of-eq (mul-right-comm (m * up e) (down d) unitsInOne ∙ ap (λ (i : ℕ). i * down d) (p .1) ∙ mul-right-comm a (down e) (down d)))
+        (le-trans (mul-le-mul-right (down e) (le-div-iff-mul-le (down-pos d) .0 h)) (le-of-eq (mul-right-comm (n * up d) unitsInOne (down e)))))
         (pow-pos 1074)
 
 -- and so, as integers

@@ -1,4 +1,4 @@
--- How far `round` moves a fraction: by half a unit of the last digit kept, and so by one part in 2 ^ prec, or by half of the format's smallest value. Assumes nothing.
+-- How far `round` moves a fraction: by half a unit of the last digit kept, and so by one part in 2 ^ prec, or by half of the format's smallest value.
 use mathlib.Core.Path.{_≡_, refl, sym, ap, _∙_, subst}
 use mathlib.Core.Logic.{_⊎_, inl, inr}
 use Prim.Native.Nat.{ℕ, zero, suc, _+_, _-_, _*_, _/_, _%_, _^_, _≤_, _<_, compare}

@@ -1,4 +1,4 @@
--- Products by a tenth and by a half. Assumes nothing.
+-- Products by a tenth and by a half.
 use mathlib.Core.Path.{_≡_, refl, sym, ap, _∙_, subst}
 use Prim.Native.Nat.{ℕ, zero, suc, _+_, _-_, _*_, _^_, _≤_, _<_}
 use native.Mathlib.Nat.{le-of-lt, lt-of-le-of-lt, lt-of-lt-of-le, not-le-of-lt, mul-one, mul-assoc, mul-pos, mul-le-mul-left, mul-le-mul-right, le-of-mul-le-mul-right, div-lt-iff-lt-mul, pow-suc}
@@ -14,7 +14,7 @@ use lib.Ieee.Scale.{finite, grid, round-same, round-val}
 use lib.Ieee.Positive.{positive, num, den, den-pos, positive-finite, own-value, mul-at}
 use Rattle.number.specs.Operators.{_⊗_, _<?_, _≤?_}
 use Rattle.number.specs.Helpers.{half, tenth}
-use Rattle.number.specs.Units.{unit, mag, neg?}
+use Rattle.number.specs.Units.{unitsInOne, mag, neg?}
 use Rattle.number.proofs.Values.{Is, Held, is-number, whole, held, below-top, mul-is}
 use Rattle.number.proofs.Rounding.{error}
 use Rattle.number.proofs.Neighbours.{multiple}
@@ -26,9 +26,9 @@ unfolding ofBits
 half-is = (refl, refl)
 
 -- a product of n units of units that binary64 holds as k units is exact
-round-product : (s : Bool) (n k : ℕ) → n ≡ k * unit → Held k → k < 2 ^ 2098 → Is (round binary64 s n (unit * unit)) s k
+round-product : (s : Bool) (n k : ℕ) → n ≡ k * unitsInOne → Held k → k < 2 ^ 2098 → Is (round binary64 s n (unitsInOne * unitsInOne)) s k
 round-product s n k e h top =
-    subst (λ (x : Float). Is x s k) (sym (round-same binary64 s n (unit * unit) k unit (mul-pos (pow-pos 1074) (pow-pos 1074)) (pow-pos 1074) (ap (λ (x : ℕ). x * unit) e ∙ mul-assoc k unit unit)))
+    subst (λ (x : Float). Is x s k) (sym (round-same binary64 s n (unitsInOne * unitsInOne) k unitsInOne (mul-pos (pow-pos 1074) (pow-pos 1074)) (pow-pos 1074) (ap (λ (x : ℕ). x * unitsInOne) e ∙ mul-assoc k unitsInOne unitsInOne)))
     (round-held s k h top)
 
 -- ---- a tenth of c is at most c, whatever c's format, and so what is at most a tenth of c is at most c
@@ -37,7 +37,7 @@ tenth-is : Is tenth false (mag tenth)
 unfolding ofBits
 tenth-is = (refl, refl)
 
-twice-tenth : mag tenth * 2 ≤ unit
+twice-tenth : mag tenth * 2 ≤ unitsInOne
 unfolding ofBits
 twice-tenth = lit≤ tt
 
@@ -64,17 +64,17 @@ module _ (c : Float) (q : T (positive c)) (p : 0 < mag c) (top : mag c < 2 ^ 209
   power-under = size-reaches (mag c) places (let e = some-places in omega (arith, e))
 
   -- c is below twice that power
-  under-twice : num c * unit ≤ 2 ^ places * 2 * den c
+  under-twice : num c * unitsInOne ≤ 2 ^ places * 2 * den c
   under-twice =
       let l : mag c < 2 ^ suc places = subst (λ (z : ℕ). mag c < 2 ^ z) (sym some-places) (size-lt (mag c)) in
-      le-of-lt (subst (λ (z : ℕ). num c * unit < z * den c) (pow-suc 2 places) (below c q (2 ^ suc places) l))
+      le-of-lt (subst (λ (z : ℕ). num c * unitsInOne < z * den c) (pow-suc 2 places) (below c q (2 ^ suc places) l))
     where
-      below : (x : Float) → T (positive x) → (z : ℕ) → mag x < z → num x * unit < z * den x
+      below : (x : Float) → T (positive x) → (z : ℕ) → mag x < z → num x * unitsInOne < z * den x
       below nan t z h = absurd t
       below (inf s) t z h = absurd t
       below (fin s m e) t z h = div-lt-iff-lt-mul (down-pos e) .0 h
 
-  power-is : Is (round binary64 false (2 ^ places) unit) false (2 ^ places)
+  power-is : Is (round binary64 false (2 ^ places) unitsInOne) false (2 ^ places)
   power-is = round-held false (2 ^ places) (1, places, lit< tt, omega arith) (lt-of-le-of-lt power-under top)
 
   crossed : (t u n d z : ℕ) → t * 2 ≤ u → n * u ≤ z * 2 * d → t * n * u ≤ z * (u * d)
@@ -82,18 +82,18 @@ module _ (c : Float) (q : T (positive c)) (p : 0 < mag c) (top : mag c < 2 ^ 209
 
   pub tenth-le : T (tenth ⊗ c ≤? c)
   tenth-le =
-      let power = round binary64 false (2 ^ places) unit in
+      let power = round binary64 false (2 ^ places) unitsInOne in
       le-through (tenth ⊗ c) power c
-      (subst (λ (x : Float). T (x ≤? power)) (sym (mul-at binary64 tenth c (mag tenth) unit (num c) (den c) (unfold ofBits in tt) q (pow-pos 1074) (den-pos c) tenth-is (own-value c q)))
-      (round-mono binary64 (mag tenth * num c) (unit * den c) (2 ^ places) unit (mul-pos (pow-pos 1074) (den-pos c)) (pow-pos 1074)
-      (crossed (mag tenth) unit (num c) (den c) (2 ^ places) twice-tenth under-twice)))
+      (subst (λ (x : Float). T (x ≤? power)) (sym (mul-at binary64 tenth c (mag tenth) unitsInOne (num c) (den c) (unfold ofBits in tt) q (pow-pos 1074) (den-pos c) tenth-is (own-value c q)))
+      (round-mono binary64 (mag tenth * num c) (unitsInOne * den c) (2 ^ places) unitsInOne (mul-pos (pow-pos 1074) (den-pos c)) (pow-pos 1074)
+      (crossed (mag tenth) unitsInOne (num c) (den c) (2 ^ places) twice-tenth under-twice)))
       (mag→le power c (2 ^ places) power-is (positive-finite c q) (unsigned c q) power-under)
 
 -- ---- half of x
 
 module _ (x : Float) (f : T (fits binary64 x)) (h : T (finite x)) where
-  halved : x ⊗ half ≡ round binary64 (neg? x) (mag x * 2 ^ 1073) (unit * unit)
-  halved = mul-is x half (neg? x) false (mag x) (2 ^ 1073) (whole x f h) half-is ∙ ap (λ (s : Bool). round binary64 s (mag x * 2 ^ 1073) (unit * unit)) (unlike-false (neg? x))
+  halved : x ⊗ half ≡ round binary64 (neg? x) (mag x * 2 ^ 1073) (unitsInOne * unitsInOne)
+  halved = mul-is x half (neg? x) false (mag x) (2 ^ 1073) (whole x f h) half-is ∙ ap (λ (s : Bool). round binary64 s (mag x * 2 ^ 1073) (unitsInOne * unitsInOne)) (unlike-false (neg? x))
 
   -- from 2 ^ 53 units on, 2 ^ -1021, halving is exact
   pub half-exact : 2 ^ 53 ≤ mag x → (k : ℕ) × (mag x ≡ k * 2) × Is (x ⊗ half) (neg? x) k
@@ -114,23 +114,23 @@ module _ (x : Float) (f : T (fits binary64 x)) (h : T (finite x)) where
   pub half-falls : neg? x ≡ false → 0 < mag x → T (x ⊗ half <? x)
   half-falls s p =
       let v : Is x false (mag x) = subst (λ (t : Bool). Is x t (mag x)) s (whole x f h) in
-      let g = grid binary64 (mag x * 2 ^ 1073) (unit * unit) in
-      let e : x ⊗ half ≡ round binary64 false (mag x * 2 ^ 1073) (unit * unit) = halved ∙ ap (λ (t : Bool). round binary64 t (mag x * 2 ^ 1073) (unit * unit)) s in
+      let g = grid binary64 (mag x * 2 ^ 1073) (unitsInOne * unitsInOne) in
+      let e : x ⊗ half ≡ round binary64 false (mag x * 2 ^ 1073) (unitsInOne * unitsInOne) = halved ∙ ap (λ (t : Bool). round binary64 t (mag x * 2 ^ 1073) (unitsInOne * unitsInOne)) s in
       let l : g < mag x = fewer (mag x) p in
-      let i : Is (x ⊗ half) false g = subst (λ (y : Float). Is y false g) (sym e) (round-val binary64 (mag x * 2 ^ 1073) (unit * unit) (lt-of-lt-of-le l (le-of-lt (below-top x false (mag x) f v)))) in
+      let i : Is (x ⊗ half) false g = subst (λ (y : Float). Is y false g) (sym e) (round-val binary64 (mag x * 2 ^ 1073) (unitsInOne * unitsInOne) (lt-of-lt-of-le l (le-of-lt (below-top x false (mag x) f v)))) in
       not-le→lt (x ⊗ half) x (is-number (x ⊗ half) false g i) (is-number x false (mag x) v) (λ t. not-le-of-lt l (le→units x (x ⊗ half) false false (mag x) g v i t))
     where
-      small : grid binary64 (1 * 2 ^ 1073) (unit * unit) ≡ 0
+      small : grid binary64 (1 * 2 ^ 1073) (unitsInOne * unitsInOne) ≡ 0
       small = unfold size in refl
 
       cancel : (g a l : ℕ) → 0 < l → g * (2 * l * (2 * l)) * 2 ^ 53 ≤ a * l * (2 * l) * 2 ^ 53 + (a * l * (2 * l) + 2 * l * (2 * l) * 2 ^ 52) → g * 2 ^ 54 ≤ a * 2 ^ 53 + a + 2 ^ 53
       cancel g a l L w = le-of-mul-le-mul-right {k = l * l * 2} (omega arith) (mul-pos (mul-pos L L) (lit< tt))
 
-      fewer : (a : ℕ) → 0 < a → grid binary64 (a * 2 ^ 1073) (unit * unit) < a
+      fewer : (a : ℕ) → 0 < a → grid binary64 (a * 2 ^ 1073) (unitsInOne * unitsInOne) < a
       fewer zero p = absurd (omega arith)
       fewer (suc zero) p = subst (λ (n : ℕ). n < 1) (sym small) p
       fewer (suc (suc a)) p =
           let n = suc (suc a) in
-          let g = grid binary64 (n * 2 ^ 1073) (unit * unit) in
-          let w = cancel g n (2 ^ 1073) (pow-pos 1073) (error (n * 2 ^ 1073 * unit) (unit * unit) (mul-pos (pow-pos 1074) (pow-pos 1074)) .0) in
+          let g = grid binary64 (n * 2 ^ 1073) (unitsInOne * unitsInOne) in
+          let w = cancel g n (2 ^ 1073) (pow-pos 1073) (error (n * 2 ^ 1073 * unitsInOne) (unitsInOne * unitsInOne) (mul-pos (pow-pos 1074) (pow-pos 1074)) .0) in
           omega arith

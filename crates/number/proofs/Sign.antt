@@ -1,4 +1,4 @@
--- The sign bit, the patterns of the NaNs, and equality in bits. Assumes nothing.
+-- The sign bit, the patterns of the NaNs, and equality in bits.
 use mathlib.Core.Path.{_≡_, refl, sym, ap, _∙_, subst}
 use Prim.Native.Nat.{ℕ, zero, suc, _+_, _-_, _*_, _/_, _%_, _^_, _<_}
 use native.Mathlib.Nat.{add-assoc, zero-add}

@@ -1,4 +1,4 @@
--- What may be exchanged: a + b and b + a, a * b and b * a, and the squares of a - b and b - a. Assumes nothing.
+-- What may be exchanged: a + b and b + a, a * b and b * a, and the squares of a - b and b - a.
 use mathlib.Core.Path.{_≡_, refl, sym, ap, _∙_}
 use Prim.Native.Nat.{ℕ, zero, suc, _+_, _-_, _*_, _/_, _%_, _^_, _≤_, _<_, compare}
 use native.Mathlib.Nat.{add-comm, mul-comm}

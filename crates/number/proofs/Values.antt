@@ -1,4 +1,4 @@
--- A finite binary64 as a whole number of units, 2 ^ -1074: `mag` with the sign `neg?`. The operations in those numbers. Assumes nothing.
+-- A finite binary64 as a whole number of units, 2 ^ -1074: `mag` with the sign `neg?`. The operations in those numbers.
 use mathlib.Core.Path.{_≡_, refl, sym, ap, _∙_, subst}
 use Prim.Native.Nat.{ℕ, zero, suc, _+_, _-_, _*_, _/_, _%_, _^_, _≤_, _<_}
 use native.Mathlib.Nat.{le-of-eq, mul-comm, mul-assoc, mul-right-comm, mul-pos, mul-div-cancel, add-mul, mul-sub, mul-lt-mul-of-pos-right, lt-of-mul-lt-mul-right, mul-mul-mul-comm, lt-of-le-of-lt, lt-of-lt-of-le, lt-irrefl, zero-mul, zero-lt-suc}
@@ -11,12 +11,12 @@ use lib.Ieee.Fits.{and-r, down-pos}
 use lib.Ieee.Bits.{ofBits-toBits}
 use lib.Ieee.Exact.{HasValue, odd-sign}
 use lib.Ieee.Scale.{round-same, round-val, round-under, grid, finite}
-use Rattle.number.specs.Units.{unit, mag, neg?}
+use Rattle.number.specs.Units.{unitsInOne, mag, neg?}
 use Rattle.number.proofs.Symmetry.{round-neg}
 
 -- x is ±a units
 abbrev pub Is : Float → Bool → ℕ → Type 0
-Is x s a = HasValue x s a unit
+Is x s a = HasValue x s a unitsInOne
 
 pub is-own : (x : Float) (s : Bool) (a : ℕ) → Is x s a → (neg? x ≡ s) × (mag x ≡ a)
 is-own nan s a h = absurd h
@@ -86,7 +86,7 @@ round-is-grid false a c h = round-val binary64 a c (round-under binary64 a c h)
 round-is-grid true a c h =
     let x = round binary64 false a c in
     let k = finite-neg x (rw (round-neg false a c) at h) in
-    rw (round-neg false a c) (value-neg x false (grid binary64 a c) unit (round-val binary64 a c (round-under binary64 a c k)))
+    rw (round-neg false a c) (value-neg x false (grid binary64 a c) unitsInOne (round-val binary64 a c (round-under binary64 a c k)))
 
 -- ---- sums
 cross : (x u d e a l : ℕ) → x * u * l ≡ a * e → x * u * d * l ≡ a * (e * d)
@@ -128,7 +128,7 @@ sum-same s t A B C a b l cp lp p q = go (Bool·beq s t)
         ∙ ap (λ (v : Bool). cond (ltb a b) (round binary64 t (b - a) l) (round binary64 (s && v) (A - B) C)) (order B A C b a l cp lp q p)
         ∙ ap (λ (v : Float). cond (ltb a b) (round binary64 t (b - a) l) v) (round-same binary64 (s && ltb b a) (A - B) C (a - b) l cp lp (minus-cross A B C a b l cp lp p q))
 
-pub add-is : (x y : Float) (s t : Bool) (a b : ℕ) → Is x s a → Is y t b → add binary64 x y ≡ sum binary64 s a t b unit
+pub add-is : (x y : Float) (s t : Bool) (a b : ℕ) → Is x s a → Is y t b → add binary64 x y ≡ sum binary64 s a t b unitsInOne
 unfolding add
 add-is nan y s t a b p q = absurd p
 add-is (inf u) y s t a b p q = absurd p
@@ -137,9 +137,9 @@ add-is (fin u m e) (inf v) s t a b p q = absurd q
 add-is (fin u m e) (fin v n d) s t a b p q =
     ap (λ (k : Bool). sum binary64 k (m * up e * down d) v (n * up d * down e) (down e * down d)) (p .0)
     ∙ ap (λ (k : Bool). sum binary64 s (m * up e * down d) k (n * up d * down e) (down e * down d)) (q .0)
-    ∙ sum-same s t (m * up e * down d) (n * up d * down e) (down e * down d) a b unit (mul-pos (down-pos e) (down-pos d)) (pow-pos 1074)
-    (cross m (up e) (down d) (down e) a unit (p .1))
-    (cross n (up d) (down e) (down d) b unit (q .1) ∙ ap (λ (k : ℕ). b * k) (mul-comm (down d) (down e)))
+    ∙ sum-same s t (m * up e * down d) (n * up d * down e) (down e * down d) a b unitsInOne (mul-pos (down-pos e) (down-pos d)) (pow-pos 1074)
+    (cross m (up e) (down d) (down e) a unitsInOne (p .1))
+    (cross n (up d) (down e) (down d) b unitsInOne (q .1) ∙ ap (λ (k : ℕ). b * k) (mul-comm (down d) (down e)))
 
 pub neg-is : (x : Float) (s : Bool) (a : ℕ) → Is x s a → Is (neg x) (not s) a
 unfolding neg
@@ -147,11 +147,11 @@ neg-is nan s a p = absurd p
 neg-is (inf u) s a p = absurd p
 neg-is (fin u m e) s a p = (ap not (p .0), p .1)
 
-pub sub-is : (x y : Float) (s t : Bool) (a b : ℕ) → Is x s a → Is y t b → sub binary64 x y ≡ sum binary64 s a (not t) b unit
+pub sub-is : (x y : Float) (s t : Bool) (a b : ℕ) → Is x s a → Is y t b → sub binary64 x y ≡ sum binary64 s a (not t) b unitsInOne
 unfolding sub
 sub-is x y s t a b p q = add-is x (neg y) s (not t) a b p (neg-is y t b q)
 
-pub mul-is : (x y : Float) (s t : Bool) (a b : ℕ) → Is x s a → Is y t b → mul binary64 x y ≡ round binary64 (unlike s t) (a * b) (unit * unit)
+pub mul-is : (x y : Float) (s t : Bool) (a b : ℕ) → Is x s a → Is y t b → mul binary64 x y ≡ round binary64 (unlike s t) (a * b) (unitsInOne * unitsInOne)
 unfolding mul
 mul-is nan y s t a b p q = absurd p
 mul-is (inf u) y s t a b p q = absurd p
@@ -160,19 +160,19 @@ mul-is (fin u m e) (inf v) s t a b p q = absurd q
 mul-is (fin u m e) (fin v n d) s t a b p q =
     ap (λ (k : Bool). round binary64 (unlike k v) (m * up e * (n * up d)) (down e * down d)) (p .0)
     ∙ ap (λ (k : Bool). round binary64 (unlike s k) (m * up e * (n * up d)) (down e * down d)) (q .0)
-    ∙ round-same binary64 (unlike s t) (m * up e * (n * up d)) (down e * down d) (a * b) (unit * unit) (mul-pos (down-pos e) (down-pos d)) (mul-pos (pow-pos 1074) (pow-pos 1074))
-    (mul-mul-mul-comm (m * up e) (n * up d) unit unit ∙ ap (λ (k : ℕ). k * (n * up d * unit)) (p .1) ∙ ap (λ (k : ℕ). a * down e * k) (q .1) ∙ mul-mul-mul-comm a (down e) b (down d))
+    ∙ round-same binary64 (unlike s t) (m * up e * (n * up d)) (down e * down d) (a * b) (unitsInOne * unitsInOne) (mul-pos (down-pos e) (down-pos d)) (mul-pos (pow-pos 1074) (pow-pos 1074))
+    (mul-mul-mul-comm (m * up e) (n * up d) unitsInOne unitsInOne ∙ ap (λ (k : ℕ). k * (n * up d * unitsInOne)) (p .1) ∙ ap (λ (k : ℕ). a * down e * k) (q .1) ∙ mul-mul-mul-comm a (down e) b (down d))
 
 -- ---- the distance of ±a and ±b, and a difference's size
 abbrev pub apart : Bool → ℕ → Bool → ℕ → ℕ
 apart s a t b = cond (Bool·beq s t) (a - b + (b - a)) (a + b)
 
-pub sum-mag : (s t : Bool) (a b : ℕ) → T (finite (sum binary64 s a (not t) b unit)) → mag (sum binary64 s a (not t) b unit) ≡ grid binary64 (apart s a t b) unit
+pub sum-mag : (s t : Bool) (a b : ℕ) → T (finite (sum binary64 s a (not t) b unitsInOne)) → mag (sum binary64 s a (not t) b unitsInOne) ≡ grid binary64 (apart s a t b) unitsInOne
 unfolding sum
 sum-mag s t a b = go s t
   where
-    at : (u : Bool) (d e : ℕ) → d ≡ e → T (finite (round binary64 u d unit)) → mag (round binary64 u d unit) ≡ grid binary64 e unit
-    at u d e p h = is-own (round binary64 u d unit) u (grid binary64 d unit) (round-is-grid u d unit h) .1 ∙ ap (λ (k : ℕ). grid binary64 k unit) p
+    at : (u : Bool) (d e : ℕ) → d ≡ e → T (finite (round binary64 u d unitsInOne)) → mag (round binary64 u d unitsInOne) ≡ grid binary64 e unitsInOne
+    at u d e p h = is-own (round binary64 u d unitsInOne) u (grid binary64 d unitsInOne) (round-is-grid u d unitsInOne h) .1 ∙ ap (λ (k : ℕ). grid binary64 k unitsInOne) p
 
     less : (a b : ℕ) → a < b → b - a ≡ a - b + (b - a)
     less a b h = omega arith
@@ -180,12 +180,12 @@ sum-mag s t a b = go s t
     more : (a b : ℕ) → b ≤ a → a - b ≡ a - b + (b - a)
     more a b h = omega arith
 
-    dif : (u v : Bool) (k : Bool) → (T k → a < b) → (T (not k) → b ≤ a) → T (finite (cond k (round binary64 u (b - a) unit) (round binary64 v (a - b) unit)))
-        → mag (cond k (round binary64 u (b - a) unit) (round binary64 v (a - b) unit)) ≡ grid binary64 (a - b + (b - a)) unit
+    dif : (u v : Bool) (k : Bool) → (T k → a < b) → (T (not k) → b ≤ a) → T (finite (cond k (round binary64 u (b - a) unitsInOne) (round binary64 v (a - b) unitsInOne)))
+        → mag (cond k (round binary64 u (b - a) unitsInOne) (round binary64 v (a - b) unitsInOne)) ≡ grid binary64 (a - b + (b - a)) unitsInOne
     dif u v true f g h = at u (b - a) (a - b + (b - a)) (less a b (f tt)) h
     dif u v false f g h = at v (a - b) (a - b + (b - a)) (more a b (g tt)) h
 
-    go : (s t : Bool) → T (finite (sum binary64 s a (not t) b unit)) → mag (sum binary64 s a (not t) b unit) ≡ grid binary64 (apart s a t b) unit
+    go : (s t : Bool) → T (finite (sum binary64 s a (not t) b unitsInOne)) → mag (sum binary64 s a (not t) b unitsInOne) ≡ grid binary64 (apart s a t b) unitsInOne
     go true true h = dif false (true && ltb b a) (ltb a b) (ltb→lt a b) (nltb→le a b) h
     go true false h = at true (a + b) (a + b) refl h
     go false true h = at false (a + b) (a + b) refl h
@@ -198,11 +198,11 @@ below-top nan s a f v = absurd v
 below-top (inf t) s a f v = absurd v
 below-top (fin t zero e) s a f v = lt-of-le-of-lt (le-of-eq (none a (down e) (down-pos e) (v .1))) (pow-pos 2098)
   where
-    none : (a d : ℕ) → 0 < d → zero * up e * unit ≡ a * d → a ≡ 0
+    none : (a d : ℕ) → 0 < d → zero * up e * unitsInOne ≡ a * d → a ≡ 0
     none zero d D h = refl
-    none (suc a) d D h = absurd (lt-irrefl 0 (subst (λ (k : ℕ). 0 < k) (sym h ∙ ap (λ (k : ℕ). k * unit) (zero-mul (up e)) ∙ zero-mul unit) (mul-pos (zero-lt-suc a) D)))
+    none (suc a) d D h = absurd (lt-irrefl 0 (subst (λ (k : ℕ). 0 < k) (sym h ∙ ap (λ (k : ℕ). k * unitsInOne) (zero-mul (up e)) ∙ zero-mul unitsInOne) (mul-pos (zero-lt-suc a) D)))
 below-top (fin t (suc m) e) s a f v =
     lt-of-mul-lt-mul-right (down e)
     (lt-of-le-of-lt (le-of-eq (sym (v .1)))
     (lt-of-lt-of-le (mul-lt-mul-of-pos-right (ltb→lt (suc m * up e) (2 ^ 1024 * down e) (and-r (eqb (suc m % 2) 1 && ltb (suc m) (2 ^ 53) && leb (down e) (2 ^ 1074)) (ltb (suc m * up e) (2 ^ 1024 * down e)) f)) (pow-pos 1074))
-    (le-of-eq (mul-right-comm (2 ^ 1024) (down e) unit))))
+    (le-of-eq (mul-right-comm (2 ^ 1024) (down e) unitsInOne))))

@@ -4,6 +4,10 @@ use lib.Dec.{eqb}
 use lib.Ieee.{Float, nan, inf, fin, binary64, isNan, neg, toBits}
 use Rattle.number.specs.Operators.{bits, _<?_, _≤?_}
 
+-- "positive zero": the Rust's `0.0`
+abbrev pub positiveZero : Float
+positiveZero = bits 0
+
 -- the Rust's `1.0`
 abbrev pub one : Float
 one = bits 0x3FF0_0000_0000_0000

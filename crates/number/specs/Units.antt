@@ -5,14 +5,14 @@ use lib.IntN.{ℤ, pos, negℤ}
 use lib.Ieee.{Float, nan, inf, fin, up, down}
 
 -- how many times 2 ^ -1074 goes into 1
-abbrev pub unit : ℕ
-unit = 2 ^ 1074
+abbrev pub unitsInOne : ℕ
+unitsInOne = 2 ^ 1074
 
 -- the magnitude of m * 2 ^ e in units of 2 ^ -1074: m * (up e / down e) * unit, exact for every finite binary64 (and the whole units below any other)
 abbrev pub mag : Float → ℕ
 mag nan = 0
 mag (inf s) = 0
-mag (fin s m e) = m * up e * unit / down e
+mag (fin s m e) = m * up e * unitsInOne / down e
 
 -- whether the sign bit is set (a NaN has none here)
 abbrev pub neg? : Float → Bool

@@ -1,4 +1,4 @@
--- Lists whose neighbours are related, and lists all of whose elements have a property. Assumes nothing.
+-- Lists whose neighbours are related, and lists all of whose elements have a property.
 use mathlib.Core.Path.{subst}
 use mathlib.Core.List.{List, [], _∷_, _++_, reverse, reverseAux, reverse-append}
 use mathlib.Core.Bool.{true}

@@ -1,4 +1,4 @@
--- The definitions compute: one trace at every limit passes, and what a small change of it is refused for. Assumes nothing.
+-- The definitions compute: one trace at every limit passes, and what a small change of it is refused for.
 use mathlib.Core.Path.{_≡_, refl}
 use mathlib.Core.Bool.{Bool, true, false, _&&_}
 use mathlib.Core.List.{List, [], _∷_}

@@ -1,4 +1,4 @@
--- STATEMENT 3: what a trace that passes says of the exact gaps. Assumes nothing.
+-- STATEMENT 3: what a trace that passes says of the exact gaps.
 use Prim.Native.Nat.{ℕ}
 use mathlib.Core.List.{List}
 use lib.Ieee.{Float}

@@ -1,4 +1,4 @@
--- What a half of the walk keeps: its points are good, each chord is at most 0.2, and it holds no more points than steps. Assumes nothing.
+-- What a half of the walk keeps: its points are good, each chord is at most 0.2, and it holds no more points than steps.
 use mathlib.Core.Path.{_≡_, refl, subst}
 use mathlib.Core.Bool.{Bool, true, false}
 use mathlib.Core.List.{List, [], _∷_, _++_}
@@ -18,9 +18,9 @@ use Rattle.gap.proofs.Gap.{distance-swap}
 use Rattle.patch.specs.declared.patch.Patch.{Patch}
 use Rattle.patch.specs.declared.patch.Parameters.{Parameters}
 use Rattle.patch.specs.Located.{pointA}
-use Rattle.meeting.specs.Good.{Good}
+use Rattle.meeting.specs.Intersection.{IsIntersection}
 use Rattle.step.specs.Step.{stepOf}
-use Rattle.walk.specs.Half.{Walked, Halfway, firstWalker, withoutLast, afterStep, halfStep, halfSpent, halfOf}
+use Rattle.walk.specs.Half.{Half, Halfway, firstWalker, withoutLast, afterStep, halfBody, halfSpent, halfOf}
 use Rattle.step.specs.Closing.{firstStride}
 use Rattle.step.specs.declared.step.Stepped.{Stepped}
 use Rattle.step.specs.declared.step.Stepped.the-variants.{Onward, Closed, Edge, Ended}
@@ -41,18 +41,18 @@ pub data Ends (a : Patch) (x : Parameters) (points : List Parameters) (closed : 
 
 pub record HalfFine (a b : Patch) (confusion : Float) (x : Parameters) (n : ℕ) (points : List Parameters) (closed : Bool) : Type 0 where
   pub few : length points ≤ n
-  pub good : All (Good a b confusion) points
+  pub good : All (IsIntersection a b confusion) points
   pub ends : Ends a x points closed
 
-module _ (a b : Patch) (tol : Tolerance) (dir : Float) (x : Parameters) (gx : Good a b (tol .confusion) x) (n : ℕ) where
+module _ (a b : Patch) (tol : Tolerance) (dir : Float) (x : Parameters) (gx : IsIntersection a b (tol .confusion) x) (n : ℕ) where
   -- before turn i: the walker stands on the last point
   record Sofar (i : ℕ) (s : Halfway) : Type 0 where
     few : length (s .points) ≤ i
-    good : All (Good a b (tol .confusion)) (s .points)
+    good : All (IsIntersection a b (tol .confusion)) (s .points)
     linked : Linked (Near a) (s .points ++ (x ∷ []))
     stands : s .w .p ≡ pointA a (firstOr (Near a) x (s .points))
 
-  abbrev Done : Walked → Type 0
+  abbrev Done : Half → Type 0
   Done v = HalfFine a b (tol .confusion) x n (v .points) (v .closed)
 
   -- a new point joins the chain
@@ -62,7 +62,7 @@ module _ (a b : Patch) (tol : Tolerance) (dir : Float) (x : Parameters) (gx : Go
       linked-front (Near a) y x ps
       (subst (λ (r : Point3D). T (distanceOf (pointA a y) r ≤? longestChord)) e (subst (λ (r : Point3D). T (distanceOf r p ≤? longestChord)) (f .own) (f .chord))) l
 
-  closes : (ps : List Parameters) (removed : Bool) → length ps < n → 3 ≤ length ps → All (Good a b (tol .confusion)) ps → Linked (Near a) (ps ++ (x ∷ []))
+  closes : (ps : List Parameters) (removed : Bool) → length ps < n → 3 ≤ length ps → All (IsIntersection a b (tol .confusion)) ps → Linked (Near a) (ps ++ (x ∷ []))
       → HalfFine a b (tol .confusion) x n (x ∷ pick removed (withoutLast ps) ps) true
   closes [] removed h k g l = absurd (let e : ⊥ = omega arith in e)
   closes (y ∷ ys) true h k g l = record {
@@ -99,7 +99,7 @@ module _ (a b : Patch) (tol : Tolerance) (dir : Float) (x : Parameters) (gx : Go
   pub half-fine : (t : Vector3D) → HalfFine a b (tol .confusion) x n (halfOf a b tol dir x t n .points) (halfOf a b tol dir x t n .closed)
   unfolding halfOf firstWalker
   half-fine t =
-      searched-keeps-at (halfStep a b tol dir x) halfSpent Sofar Done 0 n
+      searched-keeps-at (halfBody a b tol dir x) halfSpent Sofar Done 0 n
       (λ i s h v. after i s h v (stepOf a b tol dir (pointA a x) (length (s .points)) (s .w) (s .h)) (step-fine a b tol dir (pointA a x) (length (s .points)) (s .w) (s .h)))
       (λ s v. record { few = v .few; good = v .good; ends = left-open refl (v .linked) })
       (omega arith)

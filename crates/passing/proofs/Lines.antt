@@ -1,4 +1,4 @@
--- What both halves make: a line of good points whose chords but the closing one are at most 0.2. Assumes nothing.
+-- What both halves make: a line of good points whose chords but the closing one are at most 0.2.
 use mathlib.Core.Path.{_≡_, refl, ap, sym, subst, _∙_}
 use mathlib.Core.Bool.{Bool, false}
 use mathlib.Core.List.{List, [], _∷_, _++_, reverse, reverse-cons}
@@ -13,7 +13,7 @@ use Rattle.geometry.specs.declared.vector.Vector3D.{Vector3D}
 use Rattle.geometry.specs.declared.tolerance.Tolerance.{Tolerance}
 use Rattle.patch.specs.declared.patch.Patch.{Patch}
 use Rattle.patch.specs.declared.patch.Parameters.{Parameters}
-use Rattle.meeting.specs.Good.{Good}
+use Rattle.meeting.specs.Intersection.{IsIntersection}
 use Rattle.certificate.specs.Passes.{closingChord}
 use Rattle.walk.specs.Half.{halfOf}
 use Rattle.walk.specs.Line.{Line, forward, backward, lineOf}
@@ -29,11 +29,11 @@ pub data Round (x : Parameters) (points : List Parameters) (start closing : ℕ)
 pub record LineFine (a b : Patch) (confusion : Float) (x : Parameters) (n : ℕ) (points : List Parameters) (start closing : ℕ) : Type 0 where
   pub few : length points ≤ 2 * n + 1
   pub among : start < length points
-  pub good : All (Good a b confusion) points
+  pub good : All (IsIntersection a b confusion) points
   pub closed : Round x points start closing
   pub chords : (j : ℕ) → suc j < length points → closingChord (length points) closing (suc j) ≡ false → Near a (getD points (suc j) x) (getD points j x)
 
-module _ (a b : Patch) (confusion : Float) (x : Parameters) (gx : Good a b confusion x) (n : ℕ) where
+module _ (a b : Patch) (confusion : Float) (x : Parameters) (gx : IsIntersection a b confusion x) (n : ℕ) where
   -- ---- closed forward
 
   chord-before : (m : List Parameters) → Linked (Near a) m → (j : ℕ) → suc j < length m → Near a (getD (m ++ (x ∷ [])) (suc j) x) (getD (m ++ (x ∷ [])) j x)
@@ -42,39 +42,39 @@ module _ (a b : Patch) (confusion : Float) (x : Parameters) (gx : Good a b confu
       (subst (λ (y : Parameters). Near a (getD m (suc j) x) y) (sym (List·getD-append m (x ∷ []) x j (omega arith)))
       (near-swap a (getD m j x) (getD m (suc j) x) (linked-at (Near a) m x j h l)))
 
-  round-line : (r : List Parameters) → length r + 1 ≤ n → All (Good a b confusion) r → Linked (Near a) (x ∷ r) → LineFine a b confusion x n (x ∷ (r ++ (x ∷ []))) 0 1
+  round-line : (r : List Parameters) → length r + 1 ≤ n → All (IsIntersection a b confusion) r → Linked (Near a) (x ∷ r) → LineFine a b confusion x n (x ∷ (r ++ (x ∷ []))) 0 1
   round-line r h g l =
       let e = length-append r (x ∷ []) in
       record {
         few = omega (arith, e, h);
         among = omega arith;
-        good = (gx, all-append (Good a b confusion) r (x ∷ []) g (gx, tt));
+        good = (gx, all-append (IsIntersection a b confusion) r (x ∷ []) g (gx, tt));
         closed = round-forward refl refl (ap (λ (k : ℕ). getD (x ∷ (r ++ (x ∷ []))) k x) (let f : length (x ∷ (r ++ (x ∷ []))) - 1 ≡ length (x ∷ r) = omega (arith, e) in f) ∙ getD-append-seam (x ∷ r) x [] x);
         chords = λ j k c. chord-before (x ∷ r) l j (let d = eqb-false (suc j) (length (x ∷ (r ++ (x ∷ []))) - 1) c in omega (arith, d, k, e));
       }
 
   -- ---- both halves
 
-  open-line : (l r : List Parameters) → length l ≤ n → length r ≤ n → All (Good a b confusion) l → All (Good a b confusion) r → Linked (Near a) (l ++ (x ∷ [])) → Linked (Near a) (x ∷ r)
+  open-line : (l r : List Parameters) → length l ≤ n → length r ≤ n → All (IsIntersection a b confusion) l → All (IsIntersection a b confusion) r → Linked (Near a) (l ++ (x ∷ [])) → Linked (Near a) (x ∷ r)
       → LineFine a b confusion x n (l ++ (x ∷ r)) (length l) 0
   open-line l r h k g q p s =
       let e = length-append l (x ∷ r) in
       record {
         few = omega (arith, e, h, k);
         among = omega (arith, e);
-        good = all-append (Good a b confusion) l (x ∷ r) g (gx, q);
+        good = all-append (IsIntersection a b confusion) l (x ∷ r) g (gx, q);
         closed = not-round refl;
         chords = λ j d c. near-swap a (getD (l ++ (x ∷ r)) j x) (getD (l ++ (x ∷ r)) (suc j) x) (linked-at (Near a) (l ++ (x ∷ r)) x j d (linked-join (Near a) l x r p s));
       }
 
-  back-line : (l r : List Parameters) → length l + 1 ≤ n → length r ≤ n → 2 ≤ length l → All (Good a b confusion) l → All (Good a b confusion) r → Linked (Near a) (l ++ (x ∷ [])) → Linked (Near a) (x ∷ r)
+  back-line : (l r : List Parameters) → length l + 1 ≤ n → length r ≤ n → 2 ≤ length l → All (IsIntersection a b confusion) l → All (IsIntersection a b confusion) r → Linked (Near a) (l ++ (x ∷ [])) → Linked (Near a) (x ∷ r)
       → LineFine a b confusion x n (x ∷ (l ++ (x ∷ r))) (length (x ∷ l)) 2
   back-line l r h k m g q p s =
       let e = length-append l (x ∷ r) in
       record {
         few = omega (arith, e, h, k);
         among = omega (arith, e);
-        good = (gx, all-append (Good a b confusion) l (x ∷ r) g (gx, q));
+        good = (gx, all-append (IsIntersection a b confusion) l (x ∷ r) g (gx, q));
         closed = round-back refl (omega (arith, m)) (sym (getD-append-seam (x ∷ l) x r x));
         chords = chord;
       }
@@ -91,19 +91,19 @@ module _ (a b : Patch) (confusion : Float) (x : Parameters) (gx : Good a b confu
   abbrev Made : Line → Type 0
   Made m = LineFine a b confusion x n (m .points) (m .start) (m .closing)
 
-  turned : (l : List Parameters) → All (Good a b confusion) l → All (Good a b confusion) (reverse l)
-  turned l g = all-turned (Good a b confusion) l [] g tt
+  turned : (l : List Parameters) → All (IsIntersection a b confusion) l → All (IsIntersection a b confusion) (reverse l)
+  turned l g = all-turned (IsIntersection a b confusion) l [] g tt
 
-  closed-made : (kept : List Parameters) → length (x ∷ kept) ≤ n → All (Good a b confusion) (x ∷ kept) → Linked (Near a) (kept ++ (x ∷ [])) → LineFine a b confusion x n (x ∷ reverse (x ∷ kept)) 0 1
+  closed-made : (kept : List Parameters) → length (x ∷ kept) ≤ n → All (IsIntersection a b confusion) (x ∷ kept) → Linked (Near a) (kept ++ (x ∷ [])) → LineFine a b confusion x n (x ∷ reverse (x ∷ kept)) 0 1
   closed-made kept h g l =
       subst (λ (r : List Parameters). LineFine a b confusion x n (x ∷ r) 0 1) (sym (reverse-cons x kept))
       (round-line (reverse kept) (let e = length-reverse kept in omega (arith, e, h)) (turned kept (g .1)) (linked-turned (Near a) (near-swap a) x kept l))
 
-  back-made : (kept r : List Parameters) → length (x ∷ kept) ≤ n → length r ≤ n → 2 ≤ length kept → All (Good a b confusion) (x ∷ kept) → All (Good a b confusion) r
+  back-made : (kept r : List Parameters) → length (x ∷ kept) ≤ n → length r ≤ n → 2 ≤ length kept → All (IsIntersection a b confusion) (x ∷ kept) → All (IsIntersection a b confusion) r
       → Linked (Near a) (kept ++ (x ∷ [])) → Linked (Near a) (x ∷ r) → LineFine a b confusion x n ((x ∷ kept) ++ (x ∷ r)) (length (x ∷ kept)) 2
   back-made kept r h k m g q l s = back-line kept r (omega arith) k m (g .1) q l s
 
-  both-made : (fp bp : List Parameters) (bc : Bool) → length fp ≤ n → All (Good a b confusion) fp → Linked (Near a) (fp ++ (x ∷ [])) → length bp ≤ n → All (Good a b confusion) bp → Ends a x bp bc
+  both-made : (fp bp : List Parameters) (bc : Bool) → length fp ≤ n → All (IsIntersection a b confusion) fp → Linked (Near a) (fp ++ (x ∷ [])) → length bp ≤ n → All (IsIntersection a b confusion) bp → Ends a x bp bc
       → LineFine a b confusion x n (bp ++ (x ∷ reverse fp)) (length bp) (pick bc 2 0)
   both-made fp bp bc h g l k q (left-open e p) =
       subst (λ (c : Bool). LineFine a b confusion x n (bp ++ (x ∷ reverse fp)) (length bp) (pick c 2 0)) (sym e)
@@ -112,7 +112,7 @@ module _ (a b : Patch) (confusion : Float) (x : Parameters) (gx : Good a b confu
       subst (λ (c : Bool). LineFine a b confusion x n (bp ++ (x ∷ reverse fp)) (length bp) (pick c 2 0)) (sym e)
       (subst (λ (s : List Parameters). LineFine a b confusion x n (s ++ (x ∷ reverse fp)) (length s) 2) (sym d)
       (back-made kept (reverse fp) (subst (λ (s : List Parameters). length s ≤ n) d k) (let f = length-reverse fp in omega (arith, f, h)) m
-      (subst (All (Good a b confusion)) d q) (turned fp g) p (linked-turned (Near a) (near-swap a) x fp l)))
+      (subst (All (IsIntersection a b confusion)) d q) (turned fp g) p (linked-turned (Near a) (near-swap a) x fp l)))
 
   line-made : (fp : List Parameters) (fc : Bool) (bp : List Parameters) (bc : Bool) → HalfFine a b confusion x n fp fc → HalfFine a b confusion x n bp bc → Made (made fp fc bp bc)
   line-made fp fc bp bc f r = go (f .ends)
@@ -122,9 +122,9 @@ module _ (a b : Patch) (confusion : Float) (x : Parameters) (gx : Good a b confu
       go (came-round e kept d m p) =
           subst (λ (c : Bool). Made (made fp c bp bc)) (sym e)
           (subst (λ (s : List Parameters). LineFine a b confusion x n (x ∷ reverse s) 0 1) (sym d)
-          (closed-made kept (subst (λ (s : List Parameters). length s ≤ n) d (f .few)) (subst (All (Good a b confusion)) d (f .good)) p))
+          (closed-made kept (subst (λ (s : List Parameters). length s ≤ n) d (f .few)) (subst (All (IsIntersection a b confusion)) d (f .good)) p))
 
-pub line-fine : (a b : Patch) (tol : Tolerance) (x : Parameters) → Good a b (tol .confusion) x → (t : Vector3D) (n : ℕ)
+pub line-fine : (a b : Patch) (tol : Tolerance) (x : Parameters) → IsIntersection a b (tol .confusion) x → (t : Vector3D) (n : ℕ)
     → LineFine a b (tol .confusion) x n (lineOf a b tol x t n .points) (lineOf a b tol x t n .start) (lineOf a b tol x t n .closing)
 unfolding lineOf
 line-fine a b tol x gx t n =

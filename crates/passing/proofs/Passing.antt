@@ -1,4 +1,4 @@
--- STATEMENT 4: whatever `trace` is given, if it answers a trace, that trace passes. Assumes nothing.
+-- STATEMENT 4: whatever `trace` is given, if it answers a trace, that trace passes.
 use mathlib.Core.Path.{_≡_, refl, ap, sym, subst, _∙_}
 use mathlib.Core.Bool.{Bool, true, false}
 use mathlib.Core.List.{List, _++_, append-assoc}
@@ -10,7 +10,7 @@ use lib.Ieee.{Float}
 use lib.ListN.{length, drop, replicate}
 use Rattle.loops.specs.Loop.{pick}
 use Rattle.groups.specs.Groups.{width}
-use Rattle.groups.specs.Row.{zero}
+use Rattle.number.specs.Helpers.{positiveZero}
 use Rattle.refusal.specs.declared.Refusal.{Refusal}
 use Rattle.refusal.specs.declared.Refusal.the-variants as refusal
 use Rattle.refusal.proofs.Laws.{number-positive}
@@ -27,13 +27,13 @@ use Rattle.meeting.specs.Newton.{meetOf}
 use Rattle.marching.specs.declared.tangent.Direction.{Direction}
 use Rattle.marching.specs.declared.tangent.Direction.the-variants as direction
 use Rattle.marching.specs.Tangent.{tangentOf}
-use Rattle.meeting.specs.Good.{Good}
-use Rattle.meeting.proofs.Good.{meet-good}
+use Rattle.meeting.specs.Intersection.{IsIntersection}
+use Rattle.meeting.proofs.Intersection.{meet-intersects}
 use Rattle.certificate.specs.Passes.{Passes}
 use Rattle.walk.specs.Lent.{rowsOf}
 use Rattle.walk.specs.Line.{lineOf}
 use Rattle.walk.specs.Line as line
-use Rattle.walk.specs.Trace.{Outcome, refusalOf, countOf, startOf, closingOf, callFitness, room, settled, afterDirection, afterSeed, walkedOf, afterCall, traceOf}
+use Rattle.walk.specs.Trace.{Outcome, refusalOf, countOf, startOf, closingOf, callFitness, room, settled, afterDirection, afterSeed, walkOf, afterCall, traceOf}
 use Rattle.walk.specs.declared.answer.Traced.{Traced}
 use Rattle.walk.specs.declared.answer.Traced.the-variants.{Line, Refused}
 use Rattle.walk.proofs.Calls.{call-fit}
@@ -76,21 +76,21 @@ module _ (a b : Patch) (tol : Tolerance) (fa : fitnessOf a ≡ Fit) (fb : fitnes
   settled-passing x m v = go (leb 4 (length (m .points))) refl
     where
       go : (t : Bool) → leb 4 (length (m .points)) ≡ t
-          → Passing (pick t (record { answer = Line (length (m .points)) (m .start) (m .closing); buffer = rowsOf a (m .points) ++ replicate (room n - width * length (m .points)) zero })
-          (record { answer = Refused refusal.TooShort; buffer = replicate (room n) zero }))
-      go true e q = line-passing x (m .points) (m .start) (m .closing) v (replicate (room n - width * length (m .points)) zero) (leb-true 4 (length (m .points)) e) q
+          → Passing (pick t (record { answer = Line (length (m .points)) (m .start) (m .closing); buffer = rowsOf a (m .points) ++ replicate (room n - width * length (m .points)) positiveZero })
+          (record { answer = Refused refusal.TooShort; buffer = replicate (room n) positiveZero }))
+      go true e q = line-passing x (m .points) (m .start) (m .closing) v (replicate (room n - width * length (m .points)) positiveZero) (leb-true 4 (length (m .points)) e) q
       go false e q = absurd (unlined q)
 
-  direction-passing : (x : Parameters) → Good a b (tol .confusion) x → (d : Direction) → Passing (afterDirection a b tol n x d)
+  direction-passing : (x : Parameters) → IsIntersection a b (tol .confusion) x → (d : Direction) → Passing (afterDirection a b tol n x d)
   direction-passing x g (direction.Along t) = settled-passing x (lineOf a b tol x t n) (line-fine a b tol x g t n)
   direction-passing x g direction.Missing = λ q. absurd (unlined q)
 
   seed-passing : (guess : Parameters) (m : Met) → meetOf a b guess tol ≡ m → Passing (afterSeed a b tol n m)
-  seed-passing guess (met.At x) e = direction-passing x (meet-good a b tol fit guess x e) (tangentOf a b x tol)
+  seed-passing guess (met.At x) e = direction-passing x (meet-intersects a b tol fit guess x e) (tangentOf a b x tol)
   seed-passing guess met.Nothing e = λ q. absurd (unlined q)
 
-  walked-passing : (guess : Parameters) → Passing (walkedOf a b tol guess n)
-  unfolding walkedOf
+  walked-passing : (guess : Parameters) → Passing (walkOf a b tol guess n)
+  unfolding walkOf
   walked-passing guess = seed-passing guess (meetOf a b guess tol) refl
 
 -- ---- the call

@@ -1,4 +1,4 @@
--- The promises of the public calls follow from the equations of what they call. Assumes nothing.
+-- The promises of the public calls follow from the equations of what they call.
 use mathlib.Core.Path.{_≡_, refl, ap, sym, _∙_}
 use mathlib.Core.List.{List}
 use Prim.Native.Nat.{ℕ}

@@ -1,4 +1,4 @@
--- The rows of a line in the lent buffer, and that a row of good parameters passes. Assumes nothing.
+-- The rows of a line in the lent buffer, and that a row of good parameters passes.
 use mathlib.Core.Path.{_≡_, refl, ap, sym, subst, _∙_}
 use mathlib.Core.Bool.{false}
 use mathlib.Core.List.{List, [], _∷_, _++_}
@@ -21,8 +21,8 @@ use Rattle.patch.specs.declared.patch.Parameters.{Parameters}
 use Rattle.patch.specs.declared.patch.Fitness.the-variants.{Fit}
 use Rattle.patch.specs.Patch.{fitnessOf, insideOf}
 use Rattle.patch.specs.Located.{pointA, pointB}
-use Rattle.meeting.specs.Good.{Good}
-use Rattle.meeting.proofs.Good.{good-finite}
+use Rattle.meeting.specs.Intersection.{IsIntersection}
+use Rattle.meeting.proofs.Intersection.{intersection-finite}
 use Rattle.certificate.specs.Passes.{closingChord, PointPasses, ClosedAs, claimed-open, forward, backward, Passes}
 use Rattle.walk.specs.Lent.{ownRow, rowsOf}
 use Rattle.walk.proofs.Halves.{rows-length}
@@ -69,9 +69,9 @@ record RowPasses (a b : Patch) (confusion : Float) (r : Row) : Type 0 where
   gap : T (distanceOf (pointA a (parametersIn r)) (pointB b (parametersIn r)) ≤? confusion)
 
 module _ (a b : Patch) (tol : Tolerance) (fit : T (toleranceFit tol)) where
-  good-row : (y : Parameters) → Good a b (tol .confusion) y → RowPasses a b (tol .confusion) (ownRow a y)
+  good-row : (y : Parameters) → IsIntersection a b (tol .confusion) y → RowPasses a b (tol .confusion) (ownRow a y)
   good-row y g =
-      let f = good-finite a b tol fit y g .0 in
+      let f = intersection-finite a b tol fit y g .0 in
       record { inside = g .inside; finite-x = f .x-finite; finite-y = f .y-finite; finite-z = f .z-finite; own = refl; gap = g .gap }
 
   -- ---- a line in the buffer
@@ -85,7 +85,7 @@ module _ (a b : Patch) (tol : Tolerance) (fit : T (toleranceFit tol)) where
 
     point-passes : (i : ℕ) → i < length points → PointPasses a b tol l i
     point-passes i h =
-        let r = subst (RowPasses a b (tol .confusion)) (sym (row-is i h)) (good-row (getD points i x) (all-at (Good a b (tol .confusion)) points x i h (v .good))) in
+        let r = subst (RowPasses a b (tol .confusion)) (sym (row-is i h)) (good-row (getD points i x) (all-at (IsIntersection a b (tol .confusion)) points x i h (v .good))) in
         record { inside = r .inside; finite-x = r .finite-x; finite-y = r .finite-y; finite-z = r .finite-z; own = r .own; gap = r .gap }
 
     point-is : (i : ℕ) → i < length points → pointAt l i ≡ pointA a (getD points i x)

@@ -1,4 +1,4 @@
--- No refusal has the number 0, which stands for none, and each number is a byte. Assumes nothing.
+-- No refusal has the number 0, which stands for none, and each number is a byte.
 use mathlib.Core.Path.{_≡_}
 use mathlib.Core.Bool.{false}
 use Prim.Native.Nat.{_≤_}

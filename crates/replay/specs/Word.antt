@@ -6,7 +6,7 @@ use lib.Dec.{eqb, leb, ltb}
 use lib.ListN.{length, getD, set}
 use lib.Ieee.{Float, binary64, toBits, nan}
 use Rattle.loops.specs.Loop.{pick, ranged}
-use Rattle.loops.specs.Some.{some}
+use Rattle.loops.specs.Any.{anyIn}
 use Rattle.number.specs.Operators.{bits}
 use Rattle.wire.specs.Wire.{eightAt}
 
@@ -30,4 +30,4 @@ abbrev pub differAt : List ℕ → List Float → ℕ → Bool
 differAt s t k = pick (eqb (toBits binary64 (getD t k nan)) (wordAt s (8 * k))) false true
 
 abbrev pub differOf : List ℕ → List Float → Bool
-differOf s t = some (differAt s t) 0 (length t)
+differOf s t = anyIn (differAt s t) 0 (length t)

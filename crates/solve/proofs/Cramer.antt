@@ -1,4 +1,4 @@
--- What the solver of two unknowns answers by its test. Assumes nothing.
+-- What the solver of two unknowns answers by its test.
 use mathlib.Core.Path.{_≡_}
 use mathlib.Core.List.{List}
 use mathlib.Core.Bool.{Bool}

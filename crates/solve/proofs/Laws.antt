@@ -1,4 +1,4 @@
--- What one turn of each loop computes, for any size n, and what the solvers' loop does in a column. Assumes nothing.
+-- What one turn of each loop computes, for any size n, and what the solvers' loop does in a column.
 use mathlib.Core.Path.{_≡_, refl}
 use mathlib.Core.List.{List, []}
 use mathlib.Core.Bool.{Bool, true, false}

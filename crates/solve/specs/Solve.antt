@@ -103,12 +103,12 @@ backRow n s row x =
     set x row (substituted n (getD (s .rows) row []) x (row + 1) (getD (s .right) row nan) ⊘ cell (s .rows) row row)
 
 -- turn i of `for row in (0..N).rev()`
-abbrev pub backTurn : ℕ → System → ℕ → List Float → List Float
-backTurn n s i x = backRow n s (n - 1 - i) x
+abbrev pub backBody : ℕ → System → ℕ → List Float → List Float
+backBody n s i x = backRow n s (n - 1 - i) x
 
 -- back substitution, from `[0.0; N]`
 abbrev pub backSubstitution : ℕ → System → List Float
-backSubstitution n s = ranged (backTurn n s) 0 n (replicate n (bits 0))
+backSubstitution n s = ranged (backBody n s) 0 n (replicate n (bits 0))
 
 -- the answer of `solve_square`: the solution, or that a column had no pivot (`None`)
 pub data Answer : Type 0 where

@@ -1,5 +1,5 @@
 -- Whether a root is at most c, told by squares that are clearly apart: twice the square of c is below the number, or twice the number is at most the square.
--- Assumes nothing.
+--
 use mathlib.Core.Path.{_≡_, refl, sym, ap, _∙_, subst}
 use mathlib.Core.Logic.{_⊎_, inl, inr}
 use Prim.Native.Nat.{ℕ, _+_, _-_, _*_, _/_, _%_, _^_, _≤_, _<_, zero-le, compare}
@@ -12,7 +12,7 @@ use lib.Ieee.{Float, nan, inf, fin, binary64, size, nearest, unlike, round, sum,
 use lib.Ieee.Bits.{is-true}
 use lib.Ieee.Scale.{grid, finite}
 use Rattle.number.specs.Operators.{bits, _⊕_, _⊗_, _<?_, _≤?_}
-use Rattle.number.specs.Units.{unit, mag, neg?}
+use Rattle.number.specs.Units.{unitsInOne, mag, neg?}
 use Rattle.number.proofs.Values.{Is, is-own, whole, round-is-grid, add-is, mul-is}
 use Rattle.number.proofs.Rounding.{error, whole-over}
 use Rattle.number.proofs.Finite.{mul-finite}
@@ -25,29 +25,29 @@ use Rattle.sqrt.proofs.Laws.{units-kind, zero-root, sqrt-finite, sqrt-s
 -- a computed square is not negative, and the exact one is not far from it
 pub record Squared (x : Float) : Type 0 where
   pub is : Is (x ⊗ x) false (mag (x ⊗ x))
-  pub over : mag x * mag x * (2 ^ 53 - 1) ≤ mag (x ⊗ x) * unit * 2 ^ 53 + unit * 2 ^ 52
-  pub under : mag (x ⊗ x) * unit * 2 ^ 53 ≤ mag x * mag x * (2 ^ 53 + 1) + unit * 2 ^ 52
+  pub over : mag x * mag x * (2 ^ 53 - 1) ≤ mag (x ⊗ x) * unitsInOne * 2 ^ 53 + unitsInOne * 2 ^ 52
+  pub under : mag (x ⊗ x) * unitsInOne * 2 ^ 53 ≤ mag x * mag x * (2 ^ 53 + 1) + unitsInOne * 2 ^ 52
 
 unlike-self : (s : Bool) → unlike s s ≡ false
 unlike-self true = refl
 unlike-self false = refl
 
-square-is : (x : Float) → T (fits binary64 x) → T (finite x) → x ⊗ x ≡ round binary64 false (mag x * mag x) (unit * unit)
+square-is : (x : Float) → T (fits binary64 x) → T (finite x) → x ⊗ x ≡ round binary64 false (mag x * mag x) (unitsInOne * unitsInOne)
 square-is x f h =
     let v = whole x f h in
-    mul-is x x (neg? x) (neg? x) (mag x) (mag x) v v ∙ ap (λ (s : Bool). round binary64 s (mag x * mag x) (unit * unit)) (unlike-self (neg? x))
+    mul-is x x (neg? x) (neg? x) (mag x) (mag x) v v ∙ ap (λ (s : Bool). round binary64 s (mag x * mag x) (unitsInOne * unitsInOne)) (unlike-self (neg? x))
 
 pub squared : (x : Float) → T (fits binary64 x) → T (finite (x ⊗ x)) → Squared x
 squared x f h =
     let e = square-is x f (mul-finite x x h .0) in
-    let i = round-is-grid false (mag x * mag x) (unit * unit) (subst (λ (y : Float). T (finite y)) e h) in
-    let g = grid binary64 (mag x * mag x) (unit * unit) in
-    let m : mag (x ⊗ x) ≡ g = ap mag e ∙ is-own (round binary64 false (mag x * mag x) (unit * unit)) false g i .1 in
-    let w = error (mag x * mag x * unit) (unit * unit) (mul-pos (pow-pos 1074) (pow-pos 1074)) in
+    let i = round-is-grid false (mag x * mag x) (unitsInOne * unitsInOne) (subst (λ (y : Float). T (finite y)) e h) in
+    let g = grid binary64 (mag x * mag x) (unitsInOne * unitsInOne) in
+    let m : mag (x ⊗ x) ≡ g = ap mag e ∙ is-own (round binary64 false (mag x * mag x) (unitsInOne * unitsInOne)) false g i .1 in
+    let w = error (mag x * mag x * unitsInOne) (unitsInOne * unitsInOne) (mul-pos (pow-pos 1074) (pow-pos 1074)) in
     record {
       is = subst (λ (k : ℕ). Is (x ⊗ x) false k) (sym m) (subst (λ (y : Float). Is y false g) (sym e) i);
-      over = subst (λ (k : ℕ). mag x * mag x * (2 ^ 53 - 1) ≤ k * unit * 2 ^ 53 + unit * 2 ^ 52) (sym m) (less (mag x * mag x) g unit (pow-pos 1074) (w .1));
-      under = subst (λ (k : ℕ). k * unit * 2 ^ 53 ≤ mag x * mag x * (2 ^ 53 + 1) + unit * 2 ^ 52) (sym m) (more (mag x * mag x) g unit (pow-pos 1074) (w .0));
+      over = subst (λ (k : ℕ). mag x * mag x * (2 ^ 53 - 1) ≤ k * unitsInOne * 2 ^ 53 + unitsInOne * 2 ^ 52) (sym m) (less (mag x * mag x) g unitsInOne (pow-pos 1074) (w .1));
+      under = subst (λ (k : ℕ). k * unitsInOne * 2 ^ 53 ≤ mag x * mag x * (2 ^ 53 + 1) + unitsInOne * 2 ^ 52) (sym m) (more (mag x * mag x) g unitsInOne (pow-pos 1074) (w .0));
     }
   where
     less : (d g l : ℕ) → 0 < l → d * l * 2 ^ 53 ≤ g * (l * l) * 2 ^ 53 + (d * l + l * l * 2 ^ 52) → d * (2 ^ 53 - 1) ≤ g * l * 2 ^ 53 + l * 2 ^ 52
@@ -61,12 +61,12 @@ pub sum-over : (x y : Float) (a b : ℕ) → Is x false a → Is y false b → T
     → (Is (x ⊕ y) false (mag (x ⊕ y))) × ((a + b) * (2 ^ 53 - 1) ≤ mag (x ⊕ y) * 2 ^ 53)
 unfolding sum
 sum-over x y a b p q h =
-    let e : x ⊕ y ≡ round binary64 false (a + b) unit = add-is x y false false a b p q in
-    let i = round-is-grid false (a + b) unit (subst (λ (v : Float). T (finite v)) e h) in
-    let g = grid binary64 (a + b) unit in
-    let m : mag (x ⊕ y) ≡ g = ap mag e ∙ is-own (round binary64 false (a + b) unit) false g i .1 in (
+    let e : x ⊕ y ≡ round binary64 false (a + b) unitsInOne = add-is x y false false a b p q in
+    let i = round-is-grid false (a + b) unitsInOne (subst (λ (v : Float). T (finite v)) e h) in
+    let g = grid binary64 (a + b) unitsInOne in
+    let m : mag (x ⊕ y) ≡ g = ap mag e ∙ is-own (round binary64 false (a + b) unitsInOne) false g i .1 in (
       subst (λ (k : ℕ). Is (x ⊕ y) false k) (sym m) (subst (λ (v : Float). Is v false g) (sym e) i),
-      subst (λ (k : ℕ). (a + b) * (2 ^ 53 - 1) ≤ k * 2 ^ 53) (sym m) (whole-over (a + b) unit (pow-pos 1074)),
+      subst (λ (k : ℕ). (a + b) * (2 ^ 53 - 1) ≤ k * 2 ^ 53) (sym m) (whole-over (a + b) unitsInOne (pow-pos 1074)),
     )
 
 -- ---- what is not negative is finite, or infinite above
@@ -81,13 +81,13 @@ round-kind num den =
 
 square-kind : (x : Float) → T (fits binary64 x) → T (finite x) → T (finite (x ⊗ x)) ⊎ (x ⊗ x ≡ inf false)
 square-kind x f h =
-    subst (λ (y : Float). T (finite y) ⊎ (y ≡ inf false)) (sym (square-is x f h)) (round-kind (mag x * mag x) (unit * unit))
+    subst (λ (y : Float). T (finite y) ⊎ (y ≡ inf false)) (sym (square-is x f h)) (round-kind (mag x * mag x) (unitsInOne * unitsInOne))
 
 double-kind : (x : Float) (a : ℕ) → Is x false a → T (finite (x ⊕ x)) ⊎ (x ⊕ x ≡ inf false)
 unfolding sum
 double-kind x a v =
-    let e : x ⊕ x ≡ round binary64 false (a + a) unit = add-is x x false false a a v v in
-    subst (λ (y : Float). T (finite y) ⊎ (y ≡ inf false)) (sym e) (round-kind (a + a) unit)
+    let e : x ⊕ x ≡ round binary64 false (a + a) unitsInOne = add-is x x false false a a v v in
+    subst (λ (y : Float). T (finite y) ⊎ (y ≡ inf false)) (sym e) (round-kind (a + a) unitsInOne)
 
 inf-not-le : (y : Float) → T (finite y) → T (inf false ≤? y) → ⊥
 inf-not-le nan f l = f
@@ -146,15 +146,15 @@ module _ (C : ℕ) (big : 2 ^ 974 ≤ C) where
   together : (X m n : ℕ) → X ≤ C * C * m + n → n ≤ 2 ^ 1948 → X ≤ C * C * (m + 1)
   together X m n h l = le-trans h (le-trans (add-le-add (le-refl (C * C * m)) (most n l)) (le-of-eq (sym (mul-add (C * C) m 1))))
 
-  pub far-not : C * C * (2 * (J * J)) ≤ C * C * ((K + 1) * (K + 1)) + unit * H * (2 * J) → ⊥
+  pub far-not : C * C * (2 * (J * J)) ≤ C * C * ((K + 1) * (K + 1)) + unitsInOne * H * (2 * J) → ⊥
   far-not h =
       let square : 0 < C * C = mul-pos (lt-of-lt-of-le (pow-pos 974) big) (lt-of-lt-of-le (pow-pos 974) big) in
-      let l = together (C * C * (2 * (J * J))) ((K + 1) * (K + 1)) (unit * H * (2 * J)) h (lit≤ tt) in
+      let l = together (C * C * (2 * (J * J))) ((K + 1) * (K + 1)) (unitsInOne * H * (2 * J)) h (lit≤ tt) in
       not-le-of-lt (lit< {m = (K + 1) * (K + 1) + 1} {n = 2 * (J * J)} tt) (le-of-mul-le-mul-left {k = C * C} l square)
 
-  pub near-at-most : (G : ℕ) → G * G * (2 * (J * J * J)) ≤ C * C * ((K + 1) * (K * K)) + unit * H * (K * K) → G ≤ C
+  pub near-at-most : (G : ℕ) → G * G * (2 * (J * J * J)) ≤ C * C * ((K + 1) * (K * K)) + unitsInOne * H * (K * K) → G ≤ C
   near-at-most G h =
-      let l = together (G * G * (2 * (J * J * J))) ((K + 1) * (K * K)) (unit * H * (K * K)) h (lit≤ tt) in
+      let l = together (G * G * (2 * (J * J * J))) ((K + 1) * (K * K)) (unitsInOne * H * (K * K)) h (lit≤ tt) in
       let m : G * G * (2 * (J * J * J)) ≤ C * C * (2 * (J * J * J)) = le-trans l (native.Mathlib.Nat.mul-le-mul-left (C * C) (lit≤ {m = (K + 1) * (K * K) + 1} {n = 2 * (J * J * J)} tt)) in
       let s : G * G ≤ C * C = le-of-mul-le-mul-right {k = 2 * (J * J * J)} m (lit< tt) in
       le-of-suc-le-suc (lt-of-not-le (λ (k : C < G). higher G C k s))
@@ -186,14 +186,14 @@ module _ (s c : Float) (fs : T (fits binary64 s)) (fc : T (fits binary64 c)) (lo
 
     -- s is at most what its root, at most c, can be the root of
     bounded : T (finite c) → Is c false (mag c) → T (sqrtOf s ≤? c) → (neg? s ≡ false) ⊎ (mag s ≡ 0) → T (finite s) → T (finite (sqrtOf s))
-        → mag s * unit * (2 ^ 53 * 2 ^ 53) ≤ mag c * mag c * ((2 ^ 53 + 1) * (2 ^ 53 + 1))
+        → mag s * unitsInOne * (2 ^ 53 * 2 ^ 53) ≤ mag c * mag c * ((2 ^ 53 + 1) * (2 ^ 53 + 1))
     bounded hc v m (inl n) hs hr =
         let vg : Is (sqrtOf s) false (mag (sqrtOf s)) = subst (λ (t : Bool). Is (sqrtOf s) t (mag (sqrtOf s))) (sqrt-sign s fs hs n) (whole (sqrtOf s) (sqrt-fits s fs) hr) in
         let g = le→units (sqrtOf s) c false false (mag (sqrtOf s)) (mag c) vg v m in
         le-trans (sqrt-rooted s fs hs n .over) (mul-le-mul-right ((2 ^ 53 + 1) * (2 ^ 53 + 1)) (mul-le-mul g g))
-    bounded hc v m (inr z) hs hr = le-trans (le-of-eq (ap (λ (k : ℕ). k * unit * (2 ^ 53 * 2 ^ 53)) z ∙ zero-times)) zero-le
+    bounded hc v m (inr z) hs hr = le-trans (le-of-eq (ap (λ (k : ℕ). k * unitsInOne * (2 ^ 53 * 2 ^ 53)) z ∙ zero-times)) zero-le
       where
-        zero-times : 0 * unit * (2 ^ 53 * 2 ^ 53) ≡ 0
+        zero-times : 0 * unitsInOne * (2 ^ 53 * 2 ^ 53) ≡ 0
         zero-times = refl
 
     double-below : T (finite s) → Is (q ⊕ q) false (mag (q ⊕ q)) → mag (q ⊕ q) ≤ mag s
@@ -214,7 +214,7 @@ module _ (s c : Float) (fs : T (fits binary64 s)) (fc : T (fits binary64 c)) (lo
         let p = squared c fc hq in
         let d = sum-over q q (mag q) (mag q) (p .is) (p .is) (finite-double hq) in
         far-not (mag c) (b .1)
-        (far-chain (mag s) (mag c) (mag q) (mag (q ⊕ q)) unit (2 ^ 53) (2 ^ 53 - 1) (2 ^ 52)
+        (far-chain (mag s) (mag c) (mag q) (mag (q ⊕ q)) unitsInOne (2 ^ 53) (2 ^ 53 - 1) (2 ^ 52)
         (bounded hc (b .0) m (u .not-below) (u .finite-x) (u .finite-root)) (p .over) (d .1) (double-below (u .finite-x) (d .0)))
 
   -- and so the root is not at most c
@@ -263,7 +263,7 @@ module _ (s c : Float) (fs : T (fits binary64 s)) (fc : T (fits binary64 c)) (lo
         let vg : Is (sqrtOf s) false (mag (sqrtOf s)) = subst (λ (t : Bool). Is (sqrtOf s) t (mag (sqrtOf s))) (sqrt-sign s fs finite-s n) (whole (sqrtOf s) (sqrt-fits s fs) (sqrt-finite s fs finite-s n)) in
         units→le (sqrtOf s) c false false (mag (sqrtOf s)) (mag c) vg (b .0)
         (near-at-most (mag c) (b .1) (mag (sqrtOf s))
-        (near-chain (mag s) (mag (sqrtOf s)) (mag c) (mag q) (mag (s ⊕ s)) unit (2 ^ 53) (2 ^ 53 - 1) (2 ^ 52)
+        (near-chain (mag s) (mag (sqrtOf s)) (mag c) (mag q) (mag (s ⊕ s)) unitsInOne (2 ^ 53) (2 ^ 53 - 1) (2 ^ 52)
         (sqrt-rooted s fs finite-s n .under) (p .under) (d .1) (le→units (s ⊕ s) q false false (mag (s ⊕ s)) (mag q) (d .0) (p .is) l)))
       where
         finite-double : T (finite (s ⊕ s))

@@ -1,4 +1,4 @@
--- The root of a finite number above 0 is the nearest number. Assumes nothing.
+-- The root of a finite number above 0 is the nearest number.
 use mathlib.Core.Path.{_≡_, sym, subst}
 use mathlib.Core.Logic.{_⊎_, inl, inr}
 use Prim.Native.Nat.{ℕ, zero, suc, _+_, _*_, _^_, _≤_, _<_}
@@ -10,7 +10,7 @@ use lib.Dec.{T}
 use lib.Pow.{pow-pos}
 use lib.Ieee.{Float, binary64, fits}
 use lib.Ieee.Scale.{finite}
-use Rattle.number.specs.Units.{unit, mag}
+use Rattle.number.specs.Units.{unitsInOne, mag}
 use Rattle.number.proofs.Values.{is-own, Held, held}
 use Rattle.number.proofs.Neighbours.{above-next, under-next}
 use Rattle.sqrt.specs.SquareRoot.{Farther, AboveZero, NearestRoot}
@@ -72,7 +72,7 @@ farther x s c h = (
         (farther-below (s .M) k (2 ^ s .j) c (pow-pos (s .j)) (subst (Nearest (s .M)) (sym (add-one k)) n) (under-next c k (s .j) h (le-of-suc-le-suc p) (subst (λ (y : ℕ). c < y * 2 ^ s .j) (sym (add-one k)) l)))
 
 -- of a finite number above 0
-pub sqrt-correct : (x : Float) → T (fits binary64 x) → AboveZero x → NearestRoot (mag x * unit) (sqrtOf x)
+pub sqrt-correct : (x : Float) → T (fits binary64 x) → AboveZero x → NearestRoot (mag x * unitsInOne) (sqrtOf x)
 sqrt-correct x f a =
     let s = shape x f (a .0) (a .1) (a .2) in
     let o = is-own (sqrtOf x) false (s .g * 2 ^ s .j) (root-is x s) in

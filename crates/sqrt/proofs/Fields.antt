@@ -1,4 +1,4 @@
--- `sqrtOf` of a number, by the three fields of its bit pattern. Assumes nothing.
+-- `sqrtOf` of a number, by the three fields of its bit pattern.
 use mathlib.Core.Path.{_≡_, refl, sym, ap, _∙_, subst}
 use mathlib.Core.Logic.{_⊎_, inl, inr}
 use Prim.Native.Nat.{ℕ, zero, suc, _+_, _*_, _^_, _≤_, _<_}
@@ -10,7 +10,7 @@ use lib.Pow.{pow-pos}
 use lib.Ieee.{Float, nan, inf, fin, binary64, up, down, odd, ofFields}
 use lib.Ieee.Fits.{down-pos}
 use lib.Ieee.Exact.{odd-sign}
-use Rattle.number.specs.Units.{unit}
+use Rattle.number.specs.Units.{unitsInOne}
 use Rattle.number.proofs.Values.{Is, is-own}
 use Rattle.sqrt.specs.Sqrt.{sqrtOf, roundRoot}
 use Rattle.sqrt.specs.Nearest.{unitsOf}
@@ -19,16 +19,16 @@ abbrev pub at : Bool → ℕ → ℕ → Float
 at s e t = ofFields binary64 s e t
 
 -- ---- a value above or below zero
-no-value : (e : lib.IntN.ℤ) (a : ℕ) → 0 < a → zero * up e * unit ≡ a * down e → ⊥
-no-value e a A h = lt-irrefl 0 (subst (λ (k : ℕ). 0 < k) (sym h ∙ ap (λ (k : ℕ). k * unit) (zero-mul (up e)) ∙ zero-mul unit) (mul-pos A (down-pos e)))
+no-value : (e : lib.IntN.ℤ) (a : ℕ) → 0 < a → zero * up e * unitsInOne ≡ a * down e → ⊥
+no-value e a A h = lt-irrefl 0 (subst (λ (k : ℕ). 0 < k) (sym h ∙ ap (λ (k : ℕ). k * unitsInOne) (zero-mul (up e)) ∙ zero-mul unitsInOne) (mul-pos A (down-pos e)))
 
-pub sqrt-value : (x : Float) (a : ℕ) → 0 < a → Is x false a → sqrtOf x ≡ roundRoot (a * unit)
+pub sqrt-value : (x : Float) (a : ℕ) → 0 < a → Is x false a → sqrtOf x ≡ roundRoot (a * unitsInOne)
 unfolding sqrtOf
 sqrt-value nan a A h = absurd h
 sqrt-value (inf s) a A h = absurd h
 sqrt-value (fin true m e) a A h = absurd (true≢false (h .0))
 sqrt-value (fin false zero e) a A h = absurd (no-value e a A (h .1))
-sqrt-value (fin false (suc m) e) a A h = ap (λ (k : ℕ). roundRoot (k * unit)) (is-own (fin false (suc m) e) false a h .1)
+sqrt-value (fin false (suc m) e) a A h = ap (λ (k : ℕ). roundRoot (k * unitsInOne)) (is-own (fin false (suc m) e) false a h .1)
 
 below-value : (x : Float) (a : ℕ) → 0 < a → Is x true a → sqrtOf x ≡ nan
 unfolding sqrtOf
@@ -68,7 +68,7 @@ finite-value s zero t k = subst (Is (at s 0 t) s) (mul-one t) (odd-sign 53 s t 0
 finite-value s (suc x) t k = mid-value s x t k
 
 -- a finite number above 0
-pub positive : (x t : ℕ) → x < 2047 → 0 < x + t → sqrtOf (at false x t) ≡ roundRoot (unitsOf x t * unit)
+pub positive : (x t : ℕ) → x < 2047 → 0 < x + t → sqrtOf (at false x t) ≡ roundRoot (unitsOf x t * unitsInOne)
 positive x t k h = sqrt-value (at false x t) (unitsOf x t) (units-pos x t h) (finite-value false x t k)
 
 pub infinite : (t : ℕ) → sqrtOf (at false 2047 t) ≡ at false 2047 t

@@ -1,4 +1,4 @@
--- What callers of the square root cite. Assumes nothing.
+-- What callers of the square root cite.
 use mathlib.Core.Path.{_≡_, refl, sym, ap, _∙_, subst}
 use mathlib.Core.Logic.{_⊎_, inl, inr}
 use Prim.Native.Nat.{ℕ, zero, suc, _+_, _-_, _*_, _/_, _^_, _≤_, _<_, zero-le, compare}
@@ -12,7 +12,7 @@ use lib.Ieee.Fits.{up-pos}
 use lib.Ieee.Order.{le-of-values}
 use lib.Ieee.Positive.{positive, positive-of-value, values-of-le, above, above-of-le}
 use lib.Ieee.Scale.{finite, overflow}
-use Rattle.number.specs.Units.{unit, mag, neg?}
+use Rattle.number.specs.Units.{unitsInOne, mag, neg?}
 use Rattle.number.proofs.Values.{Is, whole}
 use Rattle.sqrt.specs.Sqrt.{sqrtOf, roundRoot, floorRoot}
 use Rattle.sqrt.specs.Nearest.{Nearest}
@@ -22,7 +22,7 @@ use Rattle.sqrt.proofs.Correct.{sqrt-correct}
 
 -- ---- zeros are their own roots
 pub zero-mag : (s : Bool) (e : lib.IntN.ℤ) → mag (fin s zero e) ≡ 0
-zero-mag s e = ap (λ (k : ℕ). k * unit / down e) (zero-mul (up e)) ∙ ap (λ (k : ℕ). k / down e) (zero-mul unit) ∙ zero-div (down e)
+zero-mag s e = ap (λ (k : ℕ). k * unitsInOne / down e) (zero-mul (up e)) ∙ ap (λ (k : ℕ). k / down e) (zero-mul unitsInOne) ∙ zero-div (down e)
 
 pub zero-root : (x : Float) → T (fits binary64 x) → T (finite x) → mag x ≡ 0 → sqrtOf x ≡ x
 unfolding sqrtOf
@@ -83,14 +83,14 @@ under M g U J k l h =
 
 -- mag x * unit is the square of the exact root in units, g the root in units
 pub record Rooted (x : Float) (g : ℕ) : Type 0 where
-  pub over : mag x * unit * (2 ^ 53 * 2 ^ 53) ≤ g * g * ((2 ^ 53 + 1) * (2 ^ 53 + 1))
-  pub under : g * g * ((2 ^ 53 - 1) * (2 ^ 53 - 1)) ≤ mag x * unit * (2 ^ 53 * 2 ^ 53)
+  pub over : mag x * unitsInOne * (2 ^ 53 * 2 ^ 53) ≤ g * g * ((2 ^ 53 + 1) * (2 ^ 53 + 1))
+  pub under : g * g * ((2 ^ 53 - 1) * (2 ^ 53 - 1)) ≤ mag x * unitsInOne * (2 ^ 53 * 2 ^ 53)
 
 pub sqrt-rooted : (x : Float) → T (fits binary64 x) → T (finite x) → neg? x ≡ false → Rooted x (mag (sqrtOf x))
 sqrt-rooted x f h n = go (eq-zero-or-pos (mag x))
   where
     go : (mag x ≡ 0) ⊎ (0 < mag x) → Rooted x (mag (sqrtOf x))
-    go (inl z) = subst (Rooted x) (sym (ap mag (zero-root x f h z) ∙ z)) (record { over = le-of-eq (ap (λ (k : ℕ). k * unit * (2 ^ 53 * 2 ^ 53)) z); under = le-trans (le-of-eq (zero-mul ((2 ^ 53 - 1) * (2 ^ 53 - 1)))) zero-le })
+    go (inl z) = subst (Rooted x) (sym (ap mag (zero-root x f h z) ∙ z)) (record { over = le-of-eq (ap (λ (k : ℕ). k * unitsInOne * (2 ^ 53 * 2 ^ 53)) z); under = le-trans (le-of-eq (zero-mul ((2 ^ 53 - 1) * (2 ^ 53 - 1)))) zero-le })
     go (inr A) =
         let s = shape x f h n A in
         let k : 2 ^ 53 ≤ 2 * s .g = mul-le-mul-left 2 (s .lo) in
@@ -113,7 +113,7 @@ le-mag x y p q h l = go (eq-zero-or-pos (mag x))
 
     go : (mag x ≡ 0) ⊎ (0 < mag x) → mag x ≤ mag y
     go (inl z) = le-trans (le-of-eq z) zero-le
-    go (inr A) = let k = positive-of-value x (mag x) unit p A in le-of-mul-le-mul-right {k = unit} (values-of-le x y (mag x) unit (mag y) unit k (pos y h (above-of-le x y k l)) p q l) (pow-pos 1074)
+    go (inr A) = let k = positive-of-value x (mag x) unitsInOne p A in le-of-mul-le-mul-right {k = unitsInOne} (values-of-le x y (mag x) unitsInOne (mag y) unitsInOne k (pos y h (above-of-le x y k l)) p q l) (pow-pos 1074)
 
 module _ (x y : Float) (fx : T (fits binary64 x)) (fy : T (fits binary64 y)) (hx : T (finite x)) (hy : T (finite y)) (nx : neg? x ≡ false) (ny : neg? y ≡ false) where
   pub sqrt-mono-units : mag x ≤ mag y → mag (sqrtOf x) ≤ mag (sqrtOf y)
@@ -125,15 +125,15 @@ module _ (x y : Float) (fx : T (fits binary64 x)) (fy : T (fits binary64 y)) (hx
           let B = lt-of-lt-of-le A l in
           let p = sqrt-correct x fx (hx, nx, A) in
           let q = sqrt-correct y fy (hy, ny, B) in
-          wrong (mag x * unit) (mag y * unit) (mag (sqrtOf x)) (mag (sqrtOf y)) (mul-le-mul-right unit l) (p .farther (sqrtOf y) (q .at-least) .1 k) (q .farther (sqrtOf x) (p .at-least) .0 k)))
+          wrong (mag x * unitsInOne) (mag y * unitsInOne) (mag (sqrtOf x)) (mag (sqrtOf y)) (mul-le-mul-right unitsInOne l) (p .farther (sqrtOf y) (q .at-least) .1 k) (q .farther (sqrtOf x) (p .at-least) .0 k)))
         where
           wrong : (a b g h : ℕ) → a ≤ b → (g + h) * (g + h) < 4 * a → 4 * b < (h + g) * (h + g) → ⊥
           wrong a b g h l p q = omega arith
 
   pub sqrt-mono : T (le x y) → T (le (sqrtOf x) (sqrtOf y))
-  sqrt-mono l = le-of-values (sqrtOf x) (sqrtOf y) (mag (sqrtOf x)) unit (mag (sqrtOf y)) unit (pow-pos 1074) (pow-pos 1074)
+  sqrt-mono l = le-of-values (sqrtOf x) (sqrtOf y) (mag (sqrtOf x)) unitsInOne (mag (sqrtOf y)) unitsInOne (pow-pos 1074) (pow-pos 1074)
       (own (sqrtOf x) (sqrt-fits x fx) (sqrt-finite x fx hx nx) (sqrt-sign x fx hx nx)) (own (sqrtOf y) (sqrt-fits y fy) (sqrt-finite y fy hy ny) (sqrt-sign y fy hy ny))
-      (mul-le-mul-right unit (sqrt-mono-units (le-mag x y (own x fx hx nx) (own y fy hy ny) hy l)))
+      (mul-le-mul-right unitsInOne (sqrt-mono-units (le-mag x y (own x fx hx nx) (own y fy hy ny) hy l)))
 
 -- ---- a root that is at most a finite number is finite, and what it is the root of is finite, and not below 0
 pub units-kind : (q k : ℕ) → T (finite (units binary64 false q k)) ⊎ (units binary64 false q k ≡ inf false)
@@ -174,5 +174,5 @@ sqrt-le-finite (inf false) c f h = absurd (not-inf (inf false) c (inr refl) f h)
 sqrt-le-finite (fin s zero e) c f h = record { finite-x = tt; finite-root = tt; not-below = inr (zero-mag s e) }
 sqrt-le-finite (fin true (suc m) e) c f h = unfold le in absurd h
 sqrt-le-finite (fin false (suc m) e) c f h =
-    let n = mag (fin false (suc m) e) * unit in
+    let n = mag (fin false (suc m) e) * unitsInOne in
     record { finite-x = tt; finite-root = not-inf (roundRoot n) c (root-kind n) f h; not-below = inl refl }

@@ -1,4 +1,4 @@
--- The bit pattern of q * 2 ^ k units, for a q of 53 digits, or 2 ^ 53: k * 2 ^ 52 + q. Assumes nothing.
+-- The bit pattern of q * 2 ^ k units, for a q of 53 digits, or 2 ^ 53: k * 2 ^ 52 + q.
 use mathlib.Core.Path.{_≡_, sym, ap, _∙_}
 use mathlib.Core.Logic.{inl, inr}
 use Prim.Native.Nat.{ℕ, suc, _+_, _-_, _*_, _/_, _%_, _^_, _≤_, _<_}

@@ -1,4 +1,4 @@
--- The floor of a square root, and the whole number nearest to one. Assumes nothing.
+-- The floor of a square root, and the whole number nearest to one.
 use mathlib.Core.Path.{_≡_, refl, sym, ap, _∙_, subst}
 use Prim.Native.Nat.{ℕ, zero, suc, _+_, _-_, _*_, _/_, _^_, _≤_, _<_, compare, zero-le}
 use native.Mathlib.Nat.{le-trans, le-of-eq, le-antisymm, lt-of-lt-of-le, lt-of-not-le, not-le-of-lt, le-of-suc-le-suc, mul-le-mul, pow-succ', add-sub-of-le}

@@ -1,4 +1,4 @@
--- Every root is that of m * 2 ^ (g + 52), for an m of 53 digits, and so of M * 4 ^ j, for an M of 105 or 106 digits. Assumes nothing.
+-- Every root is that of m * 2 ^ (g + 52), for an m of 53 digits, and so of M * 4 ^ j, for an M of 105 or 106 digits.
 use mathlib.Core.Path.{_≡_, sym, ap, _∙_}
 use Prim.Native.Nat.{ℕ, zero, suc, _+_, _-_, _*_, _/_, _%_, _^_, _≤_, _<_}
 use native.Mathlib.Nat.{le-trans, le-of-eq, lt-of-lt-of-le, lt-of-le-of-lt, mul-le-mul-right, mul-lt-mul-of-pos-right, mul-assoc, mod-eq-of-lt}
@@ -6,7 +6,7 @@ use native.Mathlib.Omega.{arith}
 use lib.Dec.{lit≤}
 use lib.Pow.{pow-add, pow-pos, pow-mono}
 use lib.Count.{leadingZeros, leading-top}
-use Rattle.number.specs.Units.{unit}
+use Rattle.number.specs.Units.{unitsInOne}
 use Rattle.number.proofs.Neighbours.{pow-lt-back}
 
 -- ---- by whether g is odd
@@ -55,7 +55,7 @@ pub shift-is : (sig z k : ℕ) → k ≤ 64 → sig * 2 ^ z < 2 ^ k → (sig * 2
 shift-is sig z k h l = mod-eq-of-lt (lt-of-lt-of-le l (pow-mono {i = k} {j = 64} h))
 
 -- sig * 2 ^ i units
-pub scaled : (sig i z : ℕ) → z ≤ 52 → sig * 2 ^ i * unit ≡ sig * 2 ^ z * 2 ^ (i + 1022 - z + 52)
+pub scaled : (sig i z : ℕ) → z ≤ 52 → sig * 2 ^ i * unitsInOne ≡ sig * 2 ^ z * 2 ^ (i + 1022 - z + 52)
 scaled sig i z h =
     mul-assoc sig (2 ^ i) (2 ^ 1074)
     ∙ ap (λ (x : ℕ). sig * x) (sym (pow-add 2 i 1074) ∙ ap (λ (x : ℕ). 2 ^ x) (sum i z h) ∙ pow-add 2 z (i + 1022 - z + 52))

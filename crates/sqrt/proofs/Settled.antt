@@ -1,4 +1,4 @@
--- `IsSquareRoot` settles the result: no number has two square roots, and there is no tie. Assumes nothing.
+-- `IsSquareRoot` settles the result: no number has two square roots, and there is no tie.
 use mathlib.Core.Path.{_≡_, refl, sym, ap, _∙_, subst}
 use mathlib.Core.Logic.{_⊎_, inl, inr}
 use Prim.Native.Nat.{ℕ, _+_, _-_, _*_, _/_, _^_, _<_}
@@ -8,7 +8,7 @@ use mathlib.Core.Bool.{Bool, true, false}
 use lib.Dec.{T}
 use lib.Ieee.{Float, nan, inf, fin, size}
 use lib.Ieee.Scale.{finite}
-use Rattle.number.specs.Units.{unit, mag, neg?}
+use Rattle.number.specs.Units.{unitsInOne, mag, neg?}
 use Rattle.number.proofs.Sign.{bits-apart}
 use Rattle.sqrt.specs.SquareRoot.{Farther, AtLeastZero, NearestRoot, Zero, IsSquareRoot}
 use Rattle.sqrt.proofs.Pattern.{toBits-of}
@@ -51,7 +51,7 @@ one-finite-root x r q f true n (inr a) p h = p .other-negative n no ∙ sym (h .
   where
     no : Zero x → ⊥
     no z = lt-irrefl 0 (subst (λ (k : ℕ). 0 < k) (z .1) a)
-one-finite-root x r q f false n (inr a) p h = one-nearest-root (mag x * unit) r q (p .nearest (f, n, a)) (h .nearest (f, n, a))
+one-finite-root x r q f false n (inr a) p h = one-nearest-root (mag x * unitsInOne) r q (p .nearest (f, n, a)) (h .nearest (f, n, a))
 
 -- no number has two square roots
 pub one-root : (x r q : Float) → IsSquareRoot x r → IsSquareRoot x q → r ≡ q

@@ -1,5 +1,5 @@
 -- The root of a finite number above 0, taken apart: with n = mag x * unit, the exact root in units squared, n is M * 4 ^ j, and the result is the whole number g
--- nearest to M's root, with j zeros after it. Every law about the square root follows from that. Assumes nothing.
+-- nearest to M's root, with j zeros after it. Every law about the square root follows from that.
 use mathlib.Core.Path.{_≡_, sym, ap, _∙_, subst}
 use Prim.Native.Nat.{ℕ, zero, suc, _+_, _-_, _*_, _/_, _%_, _^_, _≤_, _<_}
 use native.Mathlib.Nat.{le-trans, le-of-eq, lt-of-lt-of-le, lt-of-not-le, not-le-of-lt, le-of-suc-le-suc, lt-irrefl, zero-lt-suc, zero-mul, mul-le-mul, mul-lt-mul-of-pos-right, add-sub-of-le}
@@ -11,7 +11,7 @@ use lib.Count.{leadingZeros}
 use lib.Ieee.{Float, binary64, units, fits}
 use lib.Ieee.Exact.{units-val}
 use lib.Ieee.Scale.{finite}
-use Rattle.number.specs.Units.{unit, mag, neg?}
+use Rattle.number.specs.Units.{unitsInOne, mag, neg?}
 use Rattle.number.proofs.Values.{Is, is-own, whole, held, below-top}
 use Rattle.sqrt.specs.Sqrt.{sqrtOf, floorRoot, roundRoot}
 use Rattle.sqrt.specs.Nearest.{Nearest}
@@ -25,7 +25,7 @@ pub record Shape (x : Float) : Type 0 where
   pub M : ℕ
   pub j : ℕ
   pub g : ℕ
-  pub is : mag x * unit ≡ M * (2 ^ j * 2 ^ j)
+  pub is : mag x * unitsInOne ≡ M * (2 ^ j * 2 ^ j)
   pub above : 2 ^ 104 ≤ M
   pub near : Nearest M g
   pub lo : 2 ^ 52 ≤ g
@@ -52,8 +52,8 @@ module _ (M : ℕ) (P : 0 < M) where
       go (no h) = (q + 1, nearest-up M q (M - q * q) rest (rest-le M q (floorRoot-is M)) (lt-of-not-le h))
 
 -- a finite number is below 2 ^ 2098 units (`below-top`), so its root has few zeros
-few-zeros : (n M j : ℕ) → n ≡ M * (2 ^ j * 2 ^ j) → 2 ^ 104 ≤ M → n < 2 ^ 2098 * unit → j ≤ 1533
-few-zeros n M j e lo h = le-of-suc-le-suc (lt-of-not-le (λ (l : 1534 ≤ j). not-le-of-lt h (le-trans (lit≤ {m = 2 ^ 2098 * unit} {n = 2 ^ 104 * (2 ^ 1534 * 2 ^ 1534)} tt) (le-trans (mul-le-mul lo (mul-le-mul (pow-mono {i = 1534} l) (pow-mono {i = 1534} l))) (le-of-eq (sym e))))))
+few-zeros : (n M j : ℕ) → n ≡ M * (2 ^ j * 2 ^ j) → 2 ^ 104 ≤ M → n < 2 ^ 2098 * unitsInOne → j ≤ 1533
+few-zeros n M j e lo h = le-of-suc-le-suc (lt-of-not-le (λ (l : 1534 ≤ j). not-le-of-lt h (le-trans (lit≤ {m = 2 ^ 2098 * unitsInOne} {n = 2 ^ 104 * (2 ^ 1534 * 2 ^ 1534)} tt) (le-trans (mul-le-mul lo (mul-le-mul (pow-mono {i = 1534} l) (pow-mono {i = 1534} l))) (le-of-eq (sym e))))))
 
 pos-first : (p i a : ℕ) → 0 < a → a ≡ p * 2 ^ i → 0 < p
 pos-first zero i a A e = absurd (lt-irrefl 0 (subst (λ (k : ℕ). 0 < k) (e ∙ zero-mul (2 ^ i)) A))
@@ -74,7 +74,7 @@ shape x f h s A =
     let M = m * 2 ^ (G % 2) * 2 ^ 52 in
     let j = G / 2 in
     let r = in-range (m * 2 ^ (G % 2)) (doubled m (G % 2) (sh .lo) (sh .hi) (half G)) in
-    let e : mag x * unit ≡ M * (2 ^ j * 2 ^ j) = ap (λ (a : ℕ). a * unit) (w .3) ∙ scaled p i z (sh .few) ∙ split m G in
+    let e : mag x * unitsInOne ≡ M * (2 ^ j * 2 ^ j) = ap (λ (a : ℕ). a * unitsInOne) (w .3) ∙ scaled p i z (sh .few) ∙ split m G in
     let g = nearest-root M (lt-of-lt-of-le (pow-pos 104) (r .0)) in
     record {
       M = M;
@@ -85,7 +85,7 @@ shape x f h s A =
       near = g .1;
       lo = digits-lo M j (g .0) (r .0) (r .1) (g .1);
       hi = digits-hi M j (g .0) (r .0) (r .1) (g .1);
-      few = few-zeros (mag x * unit) M j e (r .0) (mul-lt-mul-of-pos-right (below-top x false (mag x) f (own x f h s)) (pow-pos 1074));
+      few = few-zeros (mag x * unitsInOne) M j e (r .0) (mul-lt-mul-of-pos-right (below-top x false (mag x) f (own x f h s)) (pow-pos 1074));
       root = sqrt-value x (mag x) A (own x f h s) ∙ ap roundRoot e ∙ rounded M j (g .0) (r .0) (r .1) (g .1);
     }
   where

@@ -1,5 +1,5 @@
 -- THE SQUARE ROOT IS IEEE 754's: `sqrtOf` gives, for every binary64 number, what `IsSquareRoot` asks. So nobody needs to believe
--- `sqrtOf`. Assumes nothing.
+-- `sqrtOf`.
 use mathlib.Core.Path.{_≡_, refl, ap, sym, subst}
 use Prim.Native.Nat.{zero, suc}
 use mathlib.Core.Bool.{true, false, false≢true}

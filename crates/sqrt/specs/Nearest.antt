@@ -1,7 +1,7 @@
 -- What the inner functions of the square root give. Definitions only.
 use mathlib.Core.Path.{_≡_}
 use Prim.Native.Nat.{ℕ, zero, suc, _+_, _*_, _^_, _≤_, _<_}
-use Rattle.number.specs.Units.{unit}
+use Rattle.number.specs.Units.{unitsInOne}
 
 -- g is nearest to the root of n: n lies between the squares of g - 1/2 and of g + 1/2, which are g * g - g and g * g + g and a quarter more
 pub record Nearest (n g : ℕ) : Type 0 where
@@ -29,4 +29,4 @@ pub record IsScaled (e t m g : ℕ) : Type 0 where
   pub lo : 4503599627370496 ≤ m
   pub hi : m < 9007199254740992
   pub top : g ≤ 3067
-  pub is : m * 2 ^ (g + 52) ≡ unitsOf e t * unit
+  pub is : m * 2 ^ (g + 52) ≡ unitsOf e t * unitsInOne

@@ -5,7 +5,7 @@ use Prim.Native.Nat.{ℕ, zero, suc, _+_, _-_, _*_, _/_, _^_, compare}
 use mathlib.Core.Bool.{true, false, cond}
 use lib.Dec.{leb}
 use lib.Ieee.{Float, nan, inf, fin, binary64, size, nearest, units}
-use Rattle.number.specs.Units.{unit, mag}
+use Rattle.number.specs.Units.{unitsInOne, mag}
 use Rattle.sqrt.specs.SquareRoot.{IsSquareRoot}
 
 -- the largest whole number whose square is at most n, for an n below 4 ^ d: one binary digit at a time
@@ -36,7 +36,7 @@ sqrtOf (inf true) = nan
 sqrtOf (inf false) = inf false
 sqrtOf (fin s zero e) = fin s zero e
 sqrtOf (fin true (suc m) e) = nan
-sqrtOf (fin false (suc m) e) = roundRoot (mag (fin false (suc m) e) * unit)
+sqrtOf (fin false (suc m) e) = roundRoot (mag (fin false (suc m) e) * unitsInOne)
 
 -- what `sqrt` gives at x: the definition's number, and that number is the square root of x
 pub record SqrtGives (x r : Float) : Type 0 where

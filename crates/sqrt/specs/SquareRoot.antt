@@ -7,7 +7,7 @@ use mathlib.Core.Bool.{true, false}
 use lib.Dec.{T}
 use lib.Ieee.{Float, nan, inf, binary64, fits}
 use lib.Ieee.Scale.{finite}
-use Rattle.number.specs.Units.{unit, mag, neg?}
+use Rattle.number.specs.Units.{unitsInOne, mag, neg?}
 
 -- c is farther from the root of n than g is: the root lies below the middle of g and a c above it, and above the middle of g and a c
 -- below it. Doubled and squared, the root is 4 * n and the middle (g + c) ^ 2
@@ -38,7 +38,7 @@ Zero x = T (finite x) × (mag x ≡ 0)
 -- r is the square root of x, a binary64 number of any kind
 pub record IsSquareRoot (x r : Float) : Type 0 where
   -- "rounded to nearest, ties to even"
-  pub nearest : AboveZero x → NearestRoot (mag x * unit) r
+  pub nearest : AboveZero x → NearestRoot (mag x * unitsInOne) r
   -- "that of negative zero is negative zero", and of positive zero positive zero
   pub zeros : Zero x → r ≡ x
   -- "of any other negative NaN": of negative infinity too

@@ -1,4 +1,4 @@
--- The stride loop: its invariant, what a turn makes of it, and why 37 turns leave no stride untried. Assumes nothing.
+-- The stride loop: its invariant, what a turn makes of it, and why 37 turns leave no stride untried.
 use mathlib.Core.Path.{_≡_, refl, sym, ap, _∙_}
 use mathlib.Core.Logic.{inl, inr}
 use mathlib.Core.Bool.{Bool, true, false}
@@ -30,7 +30,7 @@ use Rattle.step.specs.declared.attempt.Tried.the-variants as tried
 use Rattle.step.specs.declared.shorten.Stride.{Stride}
 use Rattle.step.specs.declared.shorten.Stride.the-variants as stride
 use Rattle.step.specs.Attempt.{attemptOf}
-use Rattle.step.specs.Shorten.{longestStride, strideStep, noStride, strideFrom, halvingOf}
+use Rattle.step.specs.Shorten.{longestStride, strideBody, noStride, strideFrom, halvingOf}
 
 -- ---- a number between a fit confusion and 0.1
 
@@ -74,8 +74,8 @@ module _ (a b : Patch) (tol : Tolerance) (dir : Float) (w : Walker) (fit : T (to
   module _ (h₀ h : Float) (v : Halved a b tol dir w h₀ h) where
     pub ended : (tol .confusion ≤? h) ≡ false → stride.Ended ≡ halvingOf a b tol dir w h₀
     ended left = elim (eq-or-lt-of-le (v .within)) [
-      | inl e ↦ searched-done (strideStep a b tol dir w) noStride (v .i) 37 (le-of-eq (sym e)) (v .same)
-      | inr l ↦ searched-leave (strideStep a b tol dir w) noStride (v .i) 37 l (rw left) (v .same)
+      | inl e ↦ searched-done (strideBody a b tol dir w) noStride (v .i) 37 (le-of-eq (sym e)) (v .same)
+      | inr l ↦ searched-leave (strideBody a b tol dir w) noStride (v .i) 37 l (rw left) (v .same)
     ]
 
     module _ (taken : (tol .confusion ≤? h) ≡ true) where
@@ -104,7 +104,7 @@ module _ (a b : Patch) (tol : Tolerance) (dir : Float) (w : Walker) (fit : T (to
         again e = record {
           i = v .i + 1;
           within = let l = below in omega arith;
-          same = searched-again (strideStep a b tol dir w) noStride (v .i) 37 below (rw (taken, ← et, e)) (v .same);
+          same = searched-again (strideBody a b tol dir w) noStride (v .i) 37 below (rw (taken, ← et, e)) (v .same);
           fits-h = mul-fits binary64 h half;
           finite-h = λ l. is-finite (h ⊗ half) (neg? h) (halved .0) (halved .2);
           small = λ l. le-trans (le-of-eq (scaled (mag (h ⊗ half)) (halved .0) (mag h) (v .i) mag-half (halved .1))) (v .small (passes _ taken));
@@ -120,4 +120,4 @@ module _ (a b : Patch) (tol : Tolerance) (dir : Float) (w : Walker) (fit : T (to
                 ap (λ (n : ℕ). n * 2 ^ (i + 1)) p ∙ ap (λ (n : ℕ). k * n) (pow-add 2 i 1 ∙ native.Mathlib.Nat.mul-comm (2 ^ i) (2 ^ 1)) ∙ sym (mul-assoc k 2 (2 ^ i)) ∙ ap (λ (n : ℕ). n * 2 ^ i) (sym q)
 
         pub found : {r : Stride} → Rattle.step.specs.Shorten.afterAttempt h t ≡ out r → r ≡ halvingOf a b tol dir w h₀
-        found e = searched-leave (strideStep a b tol dir w) noStride (v .i) 37 below (rw (taken, ← et, e)) (v .same)
+        found e = searched-leave (strideBody a b tol dir w) noStride (v .i) 37 below (rw (taken, ← et, e)) (v .same)

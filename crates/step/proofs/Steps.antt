@@ -1,5 +1,5 @@
 -- What every step of the walk keeps: a new point is A's own for its parameters and good, and its computed chord from the last is at most
--- 0.2; a half closes only when it holds 3 points. Assumes nothing.
+-- 0.2; a half closes only when it holds 3 points.
 use mathlib.Core.Path.{_≡_, refl, sym, subst}
 use mathlib.Core.Bool.{Bool, true, false, _&&_}
 use Prim.Native.Nat.{ℕ, _≤_}
@@ -16,7 +16,7 @@ use Rattle.geometry.specs.declared.vector.Vector3D.{Vector3D}
 use Rattle.geometry.specs.declared.tolerance.Tolerance.{Tolerance}
 use Rattle.geometry.specs.Tolerance.{toleranceFit}
 use Rattle.geometry.specs.Vector.{dotOf, scaleOf}
-use Rattle.geometry.specs.Point.{distanceOf, longestChord, fromOf, addVectorOf}
+use Rattle.geometry.specs.Point.{distanceOf, longestChord, differenceOf, addVectorOf}
 use Rattle.patch.specs.declared.patch.Patch.{Patch}
 use Rattle.patch.specs.declared.patch.Parameters.{Parameters}
 use Rattle.meeting.specs.declared.newton.Met.{Met}
@@ -29,15 +29,15 @@ use Rattle.marching.specs.Tangent.{tangentOf}
 use Rattle.marching.specs.Leaving.{leavingOf}
 use Rattle.patch.specs.Located.{pointA}
 use Rattle.meeting.specs.Newton.{meetInPlaneOf, landOf}
-use Rattle.meeting.specs.Good.{Good}
-use Rattle.meeting.proofs.Good.{meet-in-plane-good, land-good}
+use Rattle.meeting.specs.Intersection.{IsIntersection}
+use Rattle.meeting.proofs.Intersection.{meet-in-plane-intersects, land-intersects}
 use Rattle.step.specs.declared.attempt.Walker.{Walker}
 use Rattle.step.specs.declared.attempt.Tried.{Tried}
 use Rattle.step.specs.declared.attempt.Tried.the-variants as tried
 use Rattle.step.specs.declared.shorten.Stride.{Stride}
 use Rattle.step.specs.declared.shorten.Stride.the-variants as stride
 use Rattle.step.specs.Attempt.{keptOf, landingKept, afterLanding, landedOf, turnOf, nearCurve, smoothOf, acceptedOf, onwardOf, afterTangent, afterMeeting, innerOf, towards, predicted, attemptOf}
-use Rattle.step.specs.Shorten.{longestStride, strideStep, afterAttempt, noStride, halvingOf, strideOf}
+use Rattle.step.specs.Shorten.{longestStride, strideBody, afterAttempt, noStride, halvingOf, strideOf}
 use Rattle.step.specs.Closing.{closesOf, nextStride}
 use Rattle.step.specs.Step.{edgeStep, cameRound, innerStep, nearStart, afterStride, stepOf}
 use Rattle.step.specs.declared.step.Stepped.{Stepped}
@@ -46,7 +46,7 @@ use Rattle.step.specs.declared.step.Stepped.the-variants.{Onward, Closed
 -- what holds of a new point q with parameters y, the last point being p
 pub record Fine (a b : Patch) (confusion : Float) (p : Point3D) (y : Parameters) (q : Point3D) : Type 0 where
   pub own : q ≡ pointA a y
-  pub good : Good a b confusion y
+  pub good : IsIntersection a b confusion y
   pub chord : T (distanceOf q p ≤? longestChord)
 
 kept-chord : (chord h : Float) → T (keptOf chord h) → T (chord ≤? longestChord)
@@ -71,14 +71,14 @@ module _ (a b : Patch) (tol : Tolerance) (w : Walker) where
 module _ (a b : Patch) (tol : Tolerance) (fit : T (toleranceFit tol)) (dir : Float) (w : Walker) where
   edge-chord : (h : Float) (q : Point3D) → T (landingKept w h q) → T (distanceOf q (w .p) ≤? longestChord)
   unfolding landingKept
-  edge-chord h q t = kept-chord _ h (and-r (bits 0 ≤? dotOf (fromOf q (w .p)) (w .t)) _ t)
+  edge-chord h q t = kept-chord _ h (and-r (bits 0 ≤? dotOf (differenceOf q (w .p)) (w .t)) _ t)
 
-  landing : (h : Float) (y : Parameters) → Good a b (tol .confusion) y → (t : Bool) → landingKept w h (pointA a y) ≡ t → TriedFine a b tol w (pick t (tried.Edge y (pointA a y)) tried.Nothing)
+  landing : (h : Float) (y : Parameters) → IsIntersection a b (tol .confusion) y → (t : Bool) → landingKept w h (pointA a y) ≡ t → TriedFine a b tol w (pick t (tried.Edge y (pointA a y)) tried.Nothing)
   landing h y g true e = record { own = refl; good = g; chord = edge-chord h (pointA a y) (subst T (sym e) tt) }
   landing h y g false e = tt
 
   landed-fine : (h : Float) (guess : Parameters) (pin : ℕ) (bound : Float) (m : Met) → landOf a b guess pin bound tol ≡ m → TriedFine a b tol w (afterLanding a w h m)
-  landed-fine h guess pin bound (met.At y) e = landing h y (land-good a b tol fit guess y pin bound e) (landingKept w h (pointA a y)) refl
+  landed-fine h guess pin bound (met.At y) e = landing h y (land-intersects a b tol fit guess y pin bound e) (landingKept w h (pointA a y)) refl
   landed-fine h guess pin bound met.Nothing e = tt
 
   accepted-chord : (h : Float) (ty : Vector3D) (chord turned : Float) → T (acceptedOf (tol .confusion) w h ty chord turned) → T (chord ≤? longestChord)
@@ -86,7 +86,7 @@ module _ (a b : Patch) (tol : Tolerance) (fit : T (toleranceFit tol)) (dir : Flo
   accepted-chord h ty chord turned t =
       kept-chord chord h (and-l (keptOf chord h) (nearCurve (tol .confusion) chord turned && smoothOf (w .curvature) chord turned) (and-r (bits 0 <? dotOf ty (w .t)) (keptOf chord h && (nearCurve (tol .confusion) chord turned && smoothOf (w .curvature) chord turned)) t))
 
-  onward-fine : (h : Float) (y : Parameters) (ty : Vector3D) → Good a b (tol .confusion) y → TriedFine a b tol w (onwardOf (tol .confusion) w h y (pointA a y) ty)
+  onward-fine : (h : Float) (y : Parameters) (ty : Vector3D) → IsIntersection a b (tol .confusion) y → TriedFine a b tol w (onwardOf (tol .confusion) w h y (pointA a y) ty)
   unfolding onwardOf
   onward-fine h y ty g = go (acceptedOf (tol .confusion) w h ty (distanceOf (pointA a y) (w .p)) (turnOf (w .t) ty)) refl
     where
@@ -94,12 +94,12 @@ module _ (a b : Patch) (tol : Tolerance) (fit : T (toleranceFit tol)) (dir : Flo
       go true e = record { own = refl; good = g; chord = accepted-chord h ty (distanceOf (pointA a y) (w .p)) (turnOf (w .t) ty) (subst T (sym e) tt) }
       go false e = tt
 
-  tangent-fine : (h : Float) (y : Parameters) → Good a b (tol .confusion) y → (d : Direction) → TriedFine a b tol w (afterTangent a (tol .confusion) dir w h y d)
+  tangent-fine : (h : Float) (y : Parameters) → IsIntersection a b (tol .confusion) y → (d : Direction) → TriedFine a b tol w (afterTangent a (tol .confusion) dir w h y d)
   tangent-fine h y g (direction.Along d) = onward-fine h y (scaleOf d dir) g
   tangent-fine h y g direction.Missing = tt
 
   meeting-fine : (h : Float) (guess : Parameters) (m : Met) → meetInPlaneOf a b guess (addVectorOf (w .p) (scaleOf (w .t) h)) (w .t) tol ≡ m → TriedFine a b tol w (afterMeeting a b tol dir w h m)
-  meeting-fine h guess (met.At y) e = tangent-fine h y (meet-in-plane-good a b tol fit guess y (addVectorOf (w .p) (scaleOf (w .t) h)) (w .t) e) (tangentOf a b y tol)
+  meeting-fine h guess (met.At y) e = tangent-fine h y (meet-in-plane-intersects a b tol fit guess y (addVectorOf (w .p) (scaleOf (w .t) h)) (w .t) e) (tangentOf a b y tol)
   meeting-fine h guess met.Nothing e = tt
 
   towards-fine : (h : Float) (guess : Parameters) (e : Exit) → TriedFine a b tol w (towards a b tol dir w h guess e)
@@ -111,7 +111,7 @@ module _ (a b : Patch) (tol : Tolerance) (fit : T (toleranceFit tol)) (dir : Flo
   unfolding attemptOf
   attempt-fine h = towards-fine h (predicted a b w h) (leavingOf a b (w .x) (predicted a b w h))
 
-  turn-fine : (i : ℕ) (h : Float) → T true → Kept (λ (s : Float). T true) (StrideFine a b tol w) (strideStep a b tol dir w i h)
+  turn-fine : (i : ℕ) (h : Float) → T true → Kept (λ (s : Float). T true) (StrideFine a b tol w) (strideBody a b tol dir w i h)
   turn-fine i h s = choice (tol .confusion ≤? h) (afterAttempt h (attemptOf a b tol dir w h)) (after (attemptOf a b tol dir w h) (attempt-fine h))
     where
       after : (t : Tried) → TriedFine a b tol w t → Kept (λ (s : Float). T true) (StrideFine a b tol w) (afterAttempt h t)
@@ -125,7 +125,7 @@ module _ (a b : Patch) (tol : Tolerance) (fit : T (toleranceFit tol)) (dir : Flo
 
   halving-fine : (h : Float) → StrideFine a b tol w (halvingOf a b tol dir w h)
   unfolding halvingOf
-  halving-fine h = searched-keeps (strideStep a b tol dir w) noStride (λ (s : Float). T true) (StrideFine a b tol w) turn-fine (λ s t. tt) 0 37 h tt
+  halving-fine h = searched-keeps (strideBody a b tol dir w) noStride (λ (s : Float). T true) (StrideFine a b tol w) turn-fine (λ s t. tt) 0 37 h tt
 
 -- every stride is fine, whatever the tolerance: an unfit one gives none
 pub stride-fine : (a b : Patch) (tol : Tolerance) (dir : Float) (w : Walker) (h : Float) → StrideFine a b tol w (strideOf a b tol dir w h)

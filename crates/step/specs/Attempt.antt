@@ -10,7 +10,7 @@ use Rattle.geometry.specs.declared.vector.Vector3D.{Vector3D}
 use Rattle.geometry.specs.declared.point.Point3D.{Point3D}
 use Rattle.geometry.specs.declared.tolerance.Tolerance.{Tolerance}
 use Rattle.geometry.specs.Vector.{dotOf, crossOf, magnitudeOf, scaleOf}
-use Rattle.geometry.specs.Point.{distanceOf, longestChord, addVectorOf, fromOf}
+use Rattle.geometry.specs.Point.{distanceOf, longestChord, addVectorOf, differenceOf}
 use Rattle.patch.specs.declared.patch.Patch.{Patch}
 use Rattle.patch.specs.declared.patch.Parameters.{Parameters}
 use Rattle.meeting.specs.declared.newton.Met.{Met}
@@ -47,7 +47,7 @@ keptOf chord h = chord ≤? two ⊗ h && chord ≤? longestChord
 
 -- (q - p).dot(t) >= 0.0, and the chord
 unfoldable pub landingKept : Walker → Float → Point3D → Bool
-landingKept w h q = bits 0 ≤? dotOf (fromOf q (w .p)) (w .t) && keptOf (distanceOf q (w .p)) h
+landingKept w h q = bits 0 ≤? dotOf (differenceOf q (w .p)) (w .t) && keptOf (distanceOf q (w .p)) h
 
 -- an edge point where `land` found one that may be kept
 abbrev pub afterLanding : Patch → Walker → Float → Met → Tried

@@ -6,17 +6,17 @@ use Rattle.number.specs.Helpers.{two, one, maxOf, minOf, minPositive}
 use Rattle.sqrt.specs.Sqrt.{sqrtOf}
 use Rattle.geometry.specs.declared.point.Point3D.{Point3D}
 use Rattle.geometry.specs.Vector.{dotOf, scaleOf}
-use Rattle.geometry.specs.Point.{distanceOf, addVectorOf, fromOf}
+use Rattle.geometry.specs.Point.{distanceOf, addVectorOf, differenceOf}
 use Rattle.step.specs.Attempt.{chordDeviation}
 use Rattle.step.specs.Shorten.{longestStride}
 
 -- (start - p).dot(q - p) / (q - p).dot(q - p).max(f64::MIN_POSITIVE)
 unfoldable pub alongOf : Point3D → Point3D → Point3D → Float
-alongOf start p q = dotOf (fromOf start p) (fromOf q p) ⊘ maxOf (dotOf (fromOf q p) (fromOf q p)) minPositive
+alongOf start p q = dotOf (differenceOf start p) (differenceOf q p) ⊘ maxOf (dotOf (differenceOf q p) (differenceOf q p)) minPositive
 
 -- the point of the chord that far along
 abbrev pub nearestOf : Point3D → Point3D → Float → Point3D
-nearestOf p q along = addVectorOf p (scaleOf (fromOf q p) along)
+nearestOf p q along = addVectorOf p (scaleOf (differenceOf q p) along)
 
 -- (0.0..=1.0).contains(&along), and (p + (q - p) * along).distance(start) <= 4.0 * chord_deviation + 10.0 * tol.confusion
 abbrev pub closesAt : Float → Point3D → Point3D → Point3D → Float → Bool

@@ -25,20 +25,20 @@ afterAttempt h (tried.Edge y q) = out (stride.Edge y q)
 afterAttempt h tried.Nothing = on (h ⊗ half)
 
 -- one turn of `while h >= tol.confusion`
-abbrev pub strideStep : Patch → Patch → Tolerance → Float → Walker → ℕ → Float → Flow Float Stride
-strideStep a b tol dir w i h = pick (tol .confusion ≤? h) (afterAttempt h (attemptOf a b tol dir w h)) (out stride.Ended)
+abbrev pub strideBody : Patch → Patch → Tolerance → Float → Walker → ℕ → Float → Flow Float Stride
+strideBody a b tol dir w i h = pick (tol .confusion ≤? h) (afterAttempt h (attemptOf a b tol dir w h)) (out stride.Ended)
 
 -- the turns are spent
 abbrev pub noStride : Float → Stride
 noStride h = stride.Ended
 
 -- 37 turns: from 0.1 a stride is below 2 ^ -40, and so below every fit confusion, after 37 halvings; no stride is left untried
-abbrev pub mostTurns : ℕ
-mostTurns = 37
+abbrev pub mostHalvings : ℕ
+mostHalvings = 37
 
 -- the turns from the i-th on
 abbrev pub strideFrom : Patch → Patch → Tolerance → Float → Walker → ℕ → Float → Stride
-strideFrom a b tol dir w i h = searched (strideStep a b tol dir w) noStride i mostTurns (on h)
+strideFrom a b tol dir w i h = searched (strideBody a b tol dir w) noStride i mostHalvings (on h)
 
 -- `while h >= tol.confusion`, from the stride h
 unfoldable pub halvingOf : Patch → Patch → Tolerance → Float → Walker → Float → Stride

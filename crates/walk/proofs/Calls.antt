@@ -1,4 +1,4 @@
--- What a call that is not refused before 9 has. Assumes nothing.
+-- What a call that is not refused before 9 has.
 use mathlib.Core.Path.{_≡_, refl, ap, sym, subst}
 use mathlib.Core.Bool.{Bool, true, false}
 use mathlib.Core.List.{List}

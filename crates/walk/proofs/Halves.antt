@@ -1,4 +1,4 @@
--- The loop of a half: its invariant, what a turn makes of it and what holds at each way out. Assumes nothing.
+-- The loop of a half: its invariant, what a turn makes of it and what holds at each way out.
 use mathlib.Core.Path.{_≡_, refl, ap, sym, subst, _∙_}
 use mathlib.Core.Bool.{Bool, true, false}
 use mathlib.Core.List.{List, [], _∷_, _++_, reverse, reverse-cons}
@@ -23,7 +23,7 @@ use Rattle.step.specs.declared.step.Stepped.the-variants.{Onward, Closed, Edge,
 use Rattle.walk.specs.Lent.{placed, rowFor, ownRow, rowsOf}
 use Rattle.step.specs.Step.{stepOf}
 use Rattle.step.specs.Closing.{firstStride}
-use Rattle.walk.specs.Half.{Walked, firstWalker, withoutLast, afterStep, halfStep, halfSpent, halfFrom, halfOf}
+use Rattle.walk.specs.Half.{Half, firstWalker, withoutLast, afterStep, halfBody, halfSpent, halfFrom, halfOf}
 use Rattle.walk.proofs.Lists.{take-over, length-over}
 use Rattle.step.proofs.Steps.{SteppedFine, step-fine}
 
@@ -70,12 +70,12 @@ popped a count l (y ∷ ys) size some written = (
 )
 
 -- the points of a half stand at the front of l
-abbrev pub DoneAs : Patch → ℕ → Walked → List Float → ℕ → Bool → Type 0
+abbrev pub DoneAs : Patch → ℕ → Half → List Float → ℕ → Bool → Type 0
 DoneAs a n v l count closed = (count ≡ length (v .points)) × ((closed ≡ v .closed) × ((count ≤ n) × (take (7 * count) l ≡ rowsOf a (reverse (v .points)))))
 
 -- ---- the invariant: `out` holds the points so far, in the order walked
 module _ (a b : Patch) (tol : Tolerance) (dir : Float) (x : Parameters) (p : Point3D) (n : ℕ) (w₀ : Walker) (h₀ : Float) where
-  abbrev pub whole : Walked
+  abbrev pub whole : Half
   whole = halfFrom a b tol dir x n 0 (record { w = w₀; h = h₀; points = [] })
 
   pub record Going (out₀ l : List Float) (w : Walker) (h : Float) (count i : ℕ) : Type 0 where
@@ -97,16 +97,16 @@ module _ (a b : Patch) (tol : Tolerance) (dir : Float) (x : Parameters) (p : Poi
   going-start out₀ = record { points = []; same = refl; size = refl; few = omega arith; within = omega arith; written = refl; room = refl }
 
   module _ (own : p ≡ pointA a x) (out₀ l : List Float) (w : Walker) (h : Float) (count i : ℕ) (g : Going out₀ l w h count i)
-      (enough : 7 * n ≤ length out₀) (u : Walked) (eu : whole ≡ u) where
+      (enough : 7 * n ≤ length out₀) (u : Half) (eu : whole ≡ u) where
     pub going-spent : n ≤ i → DoneAs a n u l count false
     going-spent e =
-        let s = searched-done (halfStep a b tol dir x) halfSpent i n {s = record { w = w; h = h; points = g .points }} e (g .same) ∙ eu in (
-          g .size ∙ ap (λ (v : Walked). length (v .points)) s,
+        let s = searched-done (halfBody a b tol dir x) halfSpent i n {s = record { w = w; h = h; points = g .points }} e (g .same) ∙ eu in (
+          g .size ∙ ap (λ (v : Half). length (v .points)) s,
           (
-            ap (λ (v : Walked). v .closed) s,
+            ap (λ (v : Half). v .closed) s,
             (
               let f = g .few in let k = g .within in omega (arith, f, k),
-              g .written ∙ ap (λ (v : Walked). rowsOf a (reverse (v .points))) s,
+              g .written ∙ ap (λ (v : Half). rowsOf a (reverse (v .points))) s,
             ),
           ),
         )
@@ -118,7 +118,7 @@ module _ (a b : Patch) (tol : Tolerance) (dir : Float) (x : Parameters) (p : Poi
       pub fine : SteppedFine a b (tol .confusion) count (w .p) stepped
       fine = subst (SteppedFine a b (tol .confusion) count (w .p)) (sym es) (step-fine a b tol dir p count w h)
 
-      says : (s : Stepped) → stepped ≡ s → halfStep a b tol dir x i (record { w = w; h = h; points = g .points }) ≡ afterStep x (g .points) s
+      says : (s : Stepped) → stepped ≡ s → halfBody a b tol dir x i (record { w = w; h = h; points = g .points }) ≡ afterStep x (g .points) s
       says s e = ap (afterStep x (g .points)) (sym step-is ∙ e)
 
       pub few-held : count < n
@@ -127,14 +127,14 @@ module _ (a b : Patch) (tol : Tolerance) (dir : Float) (x : Parameters) (p : Poi
       pub fits : 7 * count + 7 ≤ length l
       fits = let f = g .few in let r = g .room in omega (arith, f, r, turn, enough)
 
-      left : (v : Walked) (s : Stepped) → stepped ≡ s → afterStep x (g .points) s ≡ out v → v ≡ u
-      left v s e o = searched-leave (halfStep a b tol dir x) halfSpent i n {s = record { w = w; h = h; points = g .points }} turn (says s e ∙ o) (g .same) ∙ eu
+      left : (v : Half) (s : Stepped) → stepped ≡ s → afterStep x (g .points) s ≡ out v → v ≡ u
+      left v s e o = searched-leave (halfBody a b tol dir x) halfSpent i n {s = record { w = w; h = h; points = g .points }} turn (says s e ∙ o) (g .same) ∙ eu
 
       pub going-on : (next : Walker) (k : Float) {m : List Float} → stepped ≡ Onward next k → m ≡ placed l (7 * count) (rowFor (next .p) (next .x))
           → Going out₀ m next k (count + 1) (i + 1)
       going-on next k {m} e em = record {
         points = next .x ∷ g .points;
-        same = searched-again (halfStep a b tol dir x) halfSpent i n {s = record { w = w; h = h; points = g .points }} turn (says (Onward next k) e) (g .same);
+        same = searched-again (halfBody a b tol dir x) halfSpent i n {s = record { w = w; h = h; points = g .points }} turn (says (Onward next k) e) (g .same);
         size = let s = g .size in omega (arith, s);
         few = let f = g .few in omega (arith, f);
         within = omega (arith, turn);
@@ -145,12 +145,12 @@ module _ (a b : Patch) (tol : Tolerance) (dir : Float) (x : Parameters) (p : Poi
       pub going-ended : stepped ≡ Ended → DoneAs a n u l count false
       going-ended e =
           let s = left (record { points = g .points; closed = false }) Ended e refl in (
-            g .size ∙ ap (λ (v : Walked). length (v .points)) s,
+            g .size ∙ ap (λ (v : Half). length (v .points)) s,
             (
-              ap (λ (v : Walked). v .closed) s,
+              ap (λ (v : Half). v .closed) s,
               (
                 let f = g .few in omega (arith, f, turn),
-                g .written ∙ ap (λ (v : Walked). rowsOf a (reverse (v .points))) s,
+                g .written ∙ ap (λ (v : Half). rowsOf a (reverse (v .points))) s,
               ),
             ),
           )
@@ -158,13 +158,13 @@ module _ (a b : Patch) (tol : Tolerance) (dir : Float) (x : Parameters) (p : Poi
       pub going-edge : (y : Parameters) (q : Point3D) {m : List Float} → stepped ≡ Edge y q → m ≡ placed l (7 * count) (rowFor q y) → DoneAs a n u m (count + 1) false
       going-edge y q {m} e em =
           let s = left (record { points = y ∷ g .points; closed = false }) (Edge y q) e refl in (
-            (let z = g .size in let f : count + 1 ≡ length (y ∷ g .points) = omega (arith, z) in f) ∙ ap (λ (v : Walked). length (v .points)) s,
+            (let z = g .size in let f : count + 1 ≡ length (y ∷ g .points) = omega (arith, z) in f) ∙ ap (λ (v : Half). length (v .points)) s,
             (
-              ap (λ (v : Walked). v .closed) s,
+              ap (λ (v : Half). v .closed) s,
               (
                 let f = g .few in omega (arith, f, turn),
                 pushed a count l (g .points) (g .size) (g .written) y q (subst (SteppedFine a b (tol .confusion) count (w .p)) e fine .own) fits em
-                    ∙ ap (λ (v : Walked). rowsOf a (reverse (v .points))) s,
+                    ∙ ap (λ (v : Half). rowsOf a (reverse (v .points))) s,
               ),
             ),
           )
@@ -199,12 +199,12 @@ module _ (a b : Patch) (tol : Tolerance) (dir : Float) (x : Parameters) (p : Poi
           let b = below removed in
           let o : take (7 * k) l ≡ rowsOf a (reverse kept) = ap (λ (j : ℕ). take (7 * j) l) ek ∙ r .1 in
           let le : k ≤ count = subst (λ (j : ℕ). j ≤ count) (sym ek) b in (
-            (let f : k + 1 ≡ length (x ∷ kept) = omega (arith, z) in f) ∙ ap (λ (v : Walked). length (v .points)) s,
+            (let f : k + 1 ≡ length (x ∷ kept) = omega (arith, z) in f) ∙ ap (λ (v : Half). length (v .points)) s,
             (
-              ap (λ (v : Walked). v .closed) s,
+              ap (λ (v : Half). v .closed) s,
               (
                 let f = g .few in omega (arith, f, turn, le),
-                pushed a k l kept z o x p own (let f = fits in omega (arith, f, le)) em ∙ ap (λ (v : Walked). rowsOf a (reverse (v .points))) s,
+                pushed a k l kept z o x p own (let f = fits in omega (arith, f, le)) em ∙ ap (λ (v : Half). rowsOf a (reverse (v .points))) s,
               ),
             ),
           )

@@ -2,4 +2,4 @@ pub mod Calls
 pub mod Halves
 pub mod Lines
 pub mod Lists
-pub mod Turning
+pub mod Reversal

@@ -1,4 +1,4 @@
--- Both halves in one list: what the parts of a slice leave when they come back, and the points turned round. Assumes nothing.
+-- Both halves in one list: what the parts of a slice leave when they come back, and the points turned round.
 use mathlib.Core.Path.{_≡_, refl, ap, sym, _∙_}
 use mathlib.Core.Bool.{true, false}
 use mathlib.Core.List.{List, [], _∷_, _++_, append-nil, append-assoc, reverse, reverse-cons, reverse-append}
@@ -16,13 +16,13 @@ use Rattle.geometry.specs.declared.vector.Vector3D.{Vector3D}
 use Rattle.geometry.specs.declared.tolerance.Tolerance.{Tolerance}
 use Rattle.patch.specs.declared.patch.Patch.{Patch}
 use Rattle.patch.specs.declared.patch.Parameters.{Parameters}
-use Rattle.walk.specs.Lent.{placed, turnedOf, joinedOf, ownRow, rowsOf}
+use Rattle.walk.specs.Lent.{placed, reversedOf, joinedOf, ownRow, rowsOf}
 use Rattle.walk.specs.Half.{halfOf}
 use Rattle.walk.specs.Line as line
 use Rattle.walk.specs.Trace.{room, finishedOf, settled}
 use Rattle.walk.proofs.Lists.{length-over}
 use Rattle.walk.proofs.Halves.{rows-append}
-use Rattle.walk.proofs.Turning.{length-turned}
+use Rattle.walk.proofs.Reversal.{length-turned}
 
 -- ---- the parts of a slice, as they come back
 
@@ -48,38 +48,38 @@ cleared l = ap (λ (k : ℕ). replicate k row.zero) (let e : length l - 0 ≡ le
 
 -- ---- turning round
 
-pub turned-append : (j k : ℕ) (xs ys : List Float) → length xs ≡ 7 * j → turnedOf (j + k) (xs ++ ys) ≡ turnedOf k ys ++ turnedOf j xs
-unfolding turnedOf
-turned-append zero k [] ys h = ap (λ (n : ℕ). turnedOf n ys) (let e : 0 + k ≡ k = omega arith in e) ∙ sym (append-nil (turnedOf k ys))
+pub turned-append : (j k : ℕ) (xs ys : List Float) → length xs ≡ 7 * j → reversedOf (j + k) (xs ++ ys) ≡ reversedOf k ys ++ reversedOf j xs
+unfolding reversedOf
+turned-append zero k [] ys h = ap (λ (n : ℕ). reversedOf n ys) (let e : 0 + k ≡ k = omega arith in e) ∙ sym (append-nil (reversedOf k ys))
 turned-append zero k (x ∷ xs) ys h = absurd (let e : ⊥ = omega (arith, h) in e)
 turned-append (suc j) k xs ys h =
     let d = length-drop 7 xs in
-    ap (λ (n : ℕ). turnedOf n (xs ++ ys)) (let e : suc j + k ≡ suc (j + k) = omega arith in e)
-    ∙ ap (λ (z : List Float). turnedOf (j + k) z ++ take 7 (xs ++ ys)) (drop-append-le 7 xs ys (omega (arith, h)))
-    ∙ ap (λ (z : List Float). turnedOf (j + k) (drop 7 xs ++ ys) ++ z) (take-append-le 7 xs ys (omega (arith, h)))
+    ap (λ (n : ℕ). reversedOf n (xs ++ ys)) (let e : suc j + k ≡ suc (j + k) = omega arith in e)
+    ∙ ap (λ (z : List Float). reversedOf (j + k) z ++ take 7 (xs ++ ys)) (drop-append-le 7 xs ys (omega (arith, h)))
+    ∙ ap (λ (z : List Float). reversedOf (j + k) (drop 7 xs ++ ys) ++ z) (take-append-le 7 xs ys (omega (arith, h)))
     ∙ ap (λ (z : List Float). z ++ take 7 xs) (turned-append j k (drop 7 xs) ys (omega (arith, d, h)))
-    ∙ append-assoc (turnedOf k ys) (turnedOf j (drop 7 xs)) (take 7 xs)
+    ∙ append-assoc (reversedOf k ys) (reversedOf j (drop 7 xs)) (take 7 xs)
 
-turned-one : (l : List Float) → length l ≡ 7 → turnedOf 1 l ≡ l
-unfolding turnedOf
+turned-one : (l : List Float) → length l ≡ 7 → reversedOf 1 l ≡ l
+unfolding reversedOf
 turned-one l h = ap (λ (k : ℕ). take k l) (sym h) ∙ take-length l
 
-pub turned-twice : (k : ℕ) (l : List Float) → length l ≡ 7 * k → turnedOf k (turnedOf k l) ≡ l
-unfolding turnedOf
+pub turned-twice : (k : ℕ) (l : List Float) → length l ≡ 7 * k → reversedOf k (reversedOf k l) ≡ l
+unfolding reversedOf
 turned-twice zero [] h = refl
 turned-twice zero (x ∷ xs) h = absurd (let e : ⊥ = omega (arith, h) in e)
 turned-twice (suc k) l h =
     let d = length-drop 7 l in
     let dk : length (drop 7 l) ≡ 7 * k = omega (arith, d, h) in
-    ap (λ (n : ℕ). turnedOf n (turnedOf k (drop 7 l) ++ take 7 l)) (sym (add-one k))
-    ∙ turned-append k 1 (turnedOf k (drop 7 l)) (take 7 l) (length-turned k (drop 7 l) dk)
-    ∙ ap (λ (z : List Float). z ++ turnedOf k (turnedOf k (drop 7 l))) (turned-one (take 7 l) (length-take-le 7 l (omega (arith, h))))
+    ap (λ (n : ℕ). reversedOf n (reversedOf k (drop 7 l) ++ take 7 l)) (sym (add-one k))
+    ∙ turned-append k 1 (reversedOf k (drop 7 l)) (take 7 l) (length-turned k (drop 7 l) dk)
+    ∙ ap (λ (z : List Float). z ++ reversedOf k (reversedOf k (drop 7 l))) (turned-one (take 7 l) (length-take-le 7 l (omega (arith, h))))
     ∙ ap (λ (z : List Float). take 7 l ++ z) (turned-twice k (drop 7 l) dk)
     ∙ take-append-drop 7 l
 
 -- the points of a list turned round are the list's points, last first
-pub turned-rows : (a : Patch) (xs : List Parameters) → turnedOf (length xs) (rowsOf a xs) ≡ rowsOf a (reverse xs)
-unfolding rowsOf turnedOf
+pub turned-rows : (a : Patch) (xs : List Parameters) → reversedOf (length xs) (rowsOf a xs) ≡ rowsOf a (reverse xs)
+unfolding rowsOf reversedOf
 turned-rows a [] = refl
 turned-rows a (x ∷ xs) = ap (λ (z : List Float). z ++ numbersOf (ownRow a x)) (turned-rows a xs) ∙ sym (ap (rowsOf a) (reverse-cons x xs) ∙ rows-append a (reverse xs) (x ∷ []))
 
@@ -100,10 +100,10 @@ module _ (f b : ℕ) (l : List Float) (h : 7 * (1 + f + b) ≤ length l) where
   R = drop (7 * (1 + f + b)) l
 
   TB : List Float
-  TB = turnedOf b B
+  TB = reversedOf b B
 
   TS : List Float
-  TS = turnedOf (1 + f) S
+  TS = reversedOf (1 + f) S
 
   lS : length S ≡ 7 * (1 + f)
   unfolding S
@@ -126,12 +126,12 @@ module _ (f b : ℕ) (l : List Float) (h : 7 * (1 + f + b) ≤ length l) where
   used = ap (λ (k : ℕ). take k l) (let e : 7 * (1 + f + b) ≡ 7 * (1 + f) + 7 * b = omega arith in e) ∙ take-add (7 * (1 + f)) (7 * b) l
 
   -- the whole turned round
-  first : turnedOf (1 + f + b) (take (7 * (1 + f + b)) l) ≡ TB ++ TS
+  first : reversedOf (1 + f + b) (take (7 * (1 + f + b)) l) ≡ TB ++ TS
   unfolding TB TS
-  first = ap (turnedOf (1 + f + b)) used ∙ turned-append (1 + f) b S B lS
+  first = ap (reversedOf (1 + f + b)) used ∙ turned-append (1 + f) b S B lS
 
   l₁ : List Float
-  l₁ = turnedOf (1 + f + b) (take (7 * (1 + f + b)) l) ++ drop (7 * (1 + f + b)) l
+  l₁ = reversedOf (1 + f + b) (take (7 * (1 + f + b)) l) ++ drop (7 * (1 + f + b)) l
 
   l₁-is : l₁ ≡ TB ++ (TS ++ R)
   unfolding l₁ R
@@ -147,13 +147,13 @@ module _ (f b : ℕ) (l : List Float) (h : 7 * (1 + f + b) ≤ length l) where
   middle-is = ap (λ (k : ℕ). take k (drop (7 * b) l₁)) span ∙ ap (take (7 * (1 + f))) behind-is ∙ take-at TS R (7 * (1 + f)) lTS
 
   -- and then the start and the forward half again
-  pub joined : {p q : List Float} → p ≡ turnedOf (1 + f + b) (take (7 * (1 + f + b)) l)
-      → q ≡ turnedOf (1 + f) (take (7 * (1 + f + b) - 7 * b) (drop (7 * b) (p ++ drop (7 * (1 + f + b)) l)))
+  pub joined : {p q : List Float} → p ≡ reversedOf (1 + f + b) (take (7 * (1 + f + b)) l)
+      → q ≡ reversedOf (1 + f) (take (7 * (1 + f + b) - 7 * b) (drop (7 * b) (p ++ drop (7 * (1 + f + b)) l)))
       → backAt (7 * b) (7 * (1 + f + b)) (p ++ drop (7 * (1 + f + b)) l) q ≡ joinedOf f b l
   unfolding l₁ joinedOf S B R TB TS
   joined {p} {q} ep eq =
       ap (λ (z : List Float). backAt (7 * b) (7 * (1 + f + b)) (z ++ drop (7 * (1 + f + b)) l) q) ep
-      ∙ ap (backAt (7 * b) (7 * (1 + f + b)) l₁) (eq ∙ ap (λ (z : List Float). turnedOf (1 + f) (take (7 * (1 + f + b) - 7 * b) (drop (7 * b) (z ++ drop (7 * (1 + f + b)) l)))) ep ∙ ap (turnedOf (1 + f)) middle-is ∙ turned-twice (1 + f) S lS)
+      ∙ ap (backAt (7 * b) (7 * (1 + f + b)) l₁) (eq ∙ ap (λ (z : List Float). reversedOf (1 + f) (take (7 * (1 + f + b) - 7 * b) (drop (7 * b) (z ++ drop (7 * (1 + f + b)) l)))) ep ∙ ap (reversedOf (1 + f)) middle-is ∙ turned-twice (1 + f) S lS)
       ∙ ap (λ (z : List Float). z ++ (S ++ drop (7 * (1 + f + b) - 7 * b) (drop (7 * b) l₁))) (ap (take (7 * b)) l₁-is ∙ take-at TB (TS ++ R) (7 * b) lTB)
       ∙ ap (λ (z : List Float). TB ++ (S ++ z)) (ap (λ (k : ℕ). drop k (drop (7 * b) l₁)) span ∙ ap (drop (7 * (1 + f))) behind-is ∙ drop-at TS R (7 * (1 + f)) lTS)
 
@@ -161,24 +161,24 @@ module _ (f b : ℕ) (l : List Float) (h : 7 * (1 + f + b) ≤ length l) where
   pub joined-first : length (take (7 * (1 + f + b)) l) ≡ 7 * (1 + f + b)
   joined-first = length-take-le (7 * (1 + f + b)) l h
 
-  pub joined-second : {p : List Float} → p ≡ turnedOf (1 + f + b) (take (7 * (1 + f + b)) l)
+  pub joined-second : {p : List Float} → p ≡ reversedOf (1 + f + b) (take (7 * (1 + f + b)) l)
       → length (take (7 * (1 + f + b) - 7 * b) (drop (7 * b) (p ++ drop (7 * (1 + f + b)) l))) ≡ 7 * (1 + f)
   unfolding l₁
   joined-second ep = ap (λ (z : List Float). length (take (7 * (1 + f + b) - 7 * b) (drop (7 * b) (z ++ drop (7 * (1 + f + b)) l)))) ep ∙ ap length middle-is ∙ lTS
 
   -- what it begins with
   pub joined-front : {xs ys : List Float} → take (7 * b) (drop (7 * (1 + f)) l) ≡ ys → take (7 * (1 + f)) l ≡ xs
-      → take (7 * (1 + f + b)) (joinedOf f b l) ≡ turnedOf b ys ++ xs
+      → take (7 * (1 + f + b)) (joinedOf f b l) ≡ reversedOf b ys ++ xs
   unfolding joinedOf TB B S R
   joined-front {xs} {ys} ey ex =
-      ap (λ (z : List Float). take (7 * (1 + f + b)) (turnedOf b z ++ (take (7 * (1 + f)) l ++ R))) ey
-      ∙ ap (λ (z : List Float). take (7 * (1 + f + b)) (turnedOf b ys ++ (z ++ R))) ex
-      ∙ ap (take (7 * (1 + f + b))) (sym (append-assoc (turnedOf b ys) xs R))
-      ∙ take-at (turnedOf b ys ++ xs) R (7 * (1 + f + b))
-      (length-append (turnedOf b ys) xs
-      ∙ (let y : length (turnedOf b ys) ≡ 7 * b = ap (λ (z : List Float). length (turnedOf b z)) (sym ey) ∙ lTB in
+      ap (λ (z : List Float). take (7 * (1 + f + b)) (reversedOf b z ++ (take (7 * (1 + f)) l ++ R))) ey
+      ∙ ap (λ (z : List Float). take (7 * (1 + f + b)) (reversedOf b ys ++ (z ++ R))) ex
+      ∙ ap (take (7 * (1 + f + b))) (sym (append-assoc (reversedOf b ys) xs R))
+      ∙ take-at (reversedOf b ys ++ xs) R (7 * (1 + f + b))
+      (length-append (reversedOf b ys) xs
+      ∙ (let y : length (reversedOf b ys) ≡ 7 * b = ap (λ (z : List Float). length (reversedOf b z)) (sym ey) ∙ lTB in
       let x : length xs ≡ 7 * (1 + f) = ap length (sym ex) ∙ lS in
-      let e : length (turnedOf b ys) + length xs ≡ 7 * (1 + f + b) = omega (arith, x, y) in e))
+      let e : length (reversedOf b ys) + length xs ≡ 7 * (1 + f + b) = omega (arith, x, y) in e))
 
 -- ---- the last part
 
@@ -218,7 +218,7 @@ both-front a x f b l B fw bw h wf lB eb wb =
     let e : take (7 * (1 + f)) (backFrom (7 * (1 + f)) l B) ≡ rowsOf a (x ∷ reverse fw) = ap (take (7 * (1 + f))) s ∙ take-at (take (7 * (1 + f)) l) B (7 * (1 + f)) t ∙ wf in
     joined-front f b (backFrom (7 * (1 + f)) l B) (let g = length-from (7 * (1 + f)) l B hl lB in omega (arith, g, h)) (ap (take (7 * b)) d ∙ wb) e
     ∙ ap (λ (z : List Float). z ++ rowsOf a (x ∷ reverse fw))
-    (ap (λ (k : ℕ). turnedOf k (rowsOf a (reverse bw))) (eb ∙ sym (length-reverse bw)) ∙ turned-rows a (reverse bw) ∙ ap (rowsOf a) (reverse-twice bw))
+    (ap (λ (k : ℕ). reversedOf k (rowsOf a (reverse bw))) (eb ∙ sym (length-reverse bw)) ∙ turned-rows a (reverse bw) ∙ ap (rowsOf a) (reverse-twice bw))
     ∙ sym (rows-append a bw (x ∷ reverse fw))
 
 -- which halves a line has

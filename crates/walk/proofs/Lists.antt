@@ -1,4 +1,4 @@
--- Lists under the stores of a loop. Assumes nothing.
+-- Lists under the stores of a loop.
 use mathlib.Core.Path.{_≡_, ap, sym, subst, _∙_}
 use mathlib.Core.List.{List, _++_, append-nil}
 use Prim.Native.Nat.{ℕ, suc, _+_, _-_, _≤_, _<_}

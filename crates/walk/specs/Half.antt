@@ -20,7 +20,7 @@ use Rattle.step.specs.declared.step.Stepped.{Stepped}
 use Rattle.step.specs.declared.step.Stepped.the-variants.{Onward, Closed, Edge, Ended}
 
 -- a half: the parameters of its points, the last one first, and whether it ended on the start
-pub record Walked : Type 0 where
+pub record Half : Type 0 where
   pub points : List Parameters
   pub closed : Bool
 
@@ -41,28 +41,28 @@ withoutLast (x ∷ xs) = xs
 
 -- what a step says. "If the last point lies nearer the start than 0.1 of the stride it is removed first"; the closing point is the start,
 -- with its own parameters x.
-abbrev pub afterStep : Parameters → List Parameters → Stepped → Flow Halfway Walked
+abbrev pub afterStep : Parameters → List Parameters → Stepped → Flow Halfway Half
 afterStep x points (Onward w h) = on (record { w = w; h = h; points = w .x ∷ points })
 afterStep x points (Closed removed) = out (record { points = x ∷ pick removed (withoutLast points) points; closed = true })
 afterStep x points (Edge y q) = out (record { points = y ∷ points; closed = false })
 afterStep x points Ended = out (record { points = points; closed = false })
 
 -- one turn of the loop over the steps
-abbrev pub halfStep : Patch → Patch → Tolerance → Float → Parameters → ℕ → Halfway → Flow Halfway Walked
-halfStep a b tol dir x i s = afterStep x (s .points) (stepOf a b tol dir (pointA a x) (length (s .points)) (s .w) (s .h))
+abbrev pub halfBody : Patch → Patch → Tolerance → Float → Parameters → ℕ → Halfway → Flow Halfway Half
+halfBody a b tol dir x i s = afterStep x (s .points) (stepOf a b tol dir (pointA a x) (length (s .points)) (s .w) (s .h))
 
 -- the steps are spent
-abbrev pub halfSpent : Halfway → Walked
+abbrev pub halfSpent : Halfway → Half
 halfSpent s = record { points = s .points; closed = false }
 
 -- the steps from the i-th on
-abbrev pub halfFrom : Patch → Patch → Tolerance → Float → Parameters → ℕ → ℕ → Halfway → Walked
-halfFrom a b tol dir x n i s = searched (halfStep a b tol dir x) halfSpent i n (on s)
+abbrev pub halfFrom : Patch → Patch → Tolerance → Float → Parameters → ℕ → ℕ → Halfway → Half
+halfFrom a b tol dir x n i s = searched (halfBody a b tol dir x) halfSpent i n (on s)
 
 -- at most n steps from the start with parameters x and tangent t; dir is 1 forward and -1 backward
-unfoldable pub halfOf : Patch → Patch → Tolerance → Float → Parameters → Vector3D → ℕ → Walked
+unfoldable pub halfOf : Patch → Patch → Tolerance → Float → Parameters → Vector3D → ℕ → Half
 halfOf a b tol dir x t n = halfFrom a b tol dir x n 0 (record { w = firstWalker x (pointA a x) t dir; h = firstStride (tol .confusion); points = [] })
 
 -- the points in the order walked
-abbrev pub inOrder : Walked → List Parameters
+abbrev pub inOrder : Half → List Parameters
 inOrder half = reverse (half .points)

@@ -16,13 +16,13 @@ abbrev pub placed : List Float → ℕ → Row → List Float
 placed l at r = take at l ++ numbersOf r ++ drop (at + width) l
 
 -- the first k points of a list, last first
-unfoldable pub turnedOf : ℕ → List Float → List Float
-turnedOf zero l = []
-turnedOf (suc k) l = turnedOf k (drop width l) ++ take width l
+unfoldable pub reversedOf : ℕ → List Float → List Float
+reversedOf zero l = []
+reversedOf (suc k) l = reversedOf k (drop width l) ++ take width l
 
 -- the start and f points behind it, then b points: those turned round come first ("the backward half turned round in it")
 unfoldable pub joinedOf : ℕ → ℕ → List Float → List Float
-joinedOf f b l = turnedOf b (take (width * b) (drop (width * (1 + f)) l)) ++ (take (width * (1 + f)) l ++ drop (width * (1 + f + b)) l)
+joinedOf f b l = reversedOf b (take (width * b) (drop (width * (1 + f)) l)) ++ (take (width * (1 + f)) l ++ drop (width * (1 + f + b)) l)
 
 -- "x, y, z, then u, v on A and u, v on B"
 abbrev pub rowFor : Point3D → Parameters → Row

@@ -9,7 +9,7 @@ use Rattle.geometry.specs.declared.vector.Vector3D.{Vector3D}
 use Rattle.geometry.specs.declared.tolerance.Tolerance.{Tolerance}
 use Rattle.patch.specs.declared.patch.Patch.{Patch}
 use Rattle.patch.specs.declared.patch.Parameters.{Parameters}
-use Rattle.walk.specs.Half.{Walked, halfOf, inOrder}
+use Rattle.walk.specs.Half.{Half, halfOf, inOrder}
 
 -- a line: the parameters of its points, the start's index and the closing code
 pub record Line : Type 0 where
@@ -26,11 +26,11 @@ abbrev pub backward : Float
 backward = neg forward
 
 -- "0 open, 1 closed forward, 2 closed backward": a half closed forward is the whole line
-abbrev pub closedForward : Parameters → Walked → Line
+abbrev pub closedForward : Parameters → Half → Line
 closedForward x f = record { points = x ∷ inOrder f; start = 0; closing = 1 }
 
 -- the backward half last point first, the start, the forward half
-abbrev pub bothHalves : Parameters → Walked → Walked → Line
+abbrev pub bothHalves : Parameters → Half → Half → Line
 bothHalves x f b = record { points = b .points ++ (x ∷ inOrder f); start = length (b .points); closing = pick (b .closed) 2 0 }
 
 -- "runs forward, then backward unless closed"

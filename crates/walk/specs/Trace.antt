@@ -8,7 +8,7 @@ use lib.Ieee.Scale.{finite}
 use lib.ListN.{length, take, drop, replicate}
 use Rattle.loops.specs.Loop.{pick}
 use Rattle.groups.specs.Groups.{width, holdsOf}
-use Rattle.groups.specs.Row.{zero}
+use Rattle.number.specs.Helpers.{positiveZero}
 use Rattle.refusal.specs.declared.Refusal.{Refusal}
 use Rattle.refusal.specs.declared.Refusal.the-variants as refusal
 use Rattle.refusal.specs.Refusal.{numberOf}
@@ -92,13 +92,13 @@ room n = width * (2 * n + 1)
 
 -- "Refusals 9, 10 and 11 leave its first 7(2n+1) numbers positive zero."
 abbrev pub refusedWalk : Refusal → ℕ → Outcome
-refusedWalk r n = record { answer = Refused r; buffer = replicate (room n) zero }
+refusedWalk r n = record { answer = Refused r; buffer = replicate (room n) positiveZero }
 
 -- 11: "fewer than 4 points"; "Success puts seven numbers a point first"; "zeros follow up to 7(2n+1)": here up to `size`
 abbrev pub outcomeOf : ℕ → ℕ → ℕ → List Float → ℕ → Outcome
 outcomeOf count start closing rows size =
-    pick (leb 4 count) (record { answer = Line count start closing; buffer = rows ++ replicate (size - width * count) zero })
-    (record { answer = Refused refusal.TooShort; buffer = replicate size zero })
+    pick (leb 4 count) (record { answer = Line count start closing; buffer = rows ++ replicate (size - width * count) positiveZero })
+    (record { answer = Refused refusal.TooShort; buffer = replicate size positiveZero })
 
 -- of a list that begins with the line's points
 unfoldable pub finishedOf : ℕ → ℕ → ℕ → List Float → Outcome
@@ -119,15 +119,15 @@ afterSeed a b tol n (met.At x) = afterDirection a b tol n x (tangentOf a b x tol
 afterSeed a b tol n met.Nothing = refusedWalk refusal.NoMeeting n
 
 -- "The seed must be met first": from the guess, by `meet` without a plane
-unfoldable pub walkedOf : Patch → Patch → Tolerance → Parameters → ℕ → Outcome
-walkedOf a b tol guess n = afterSeed a b tol n (meetOf a b guess tol)
+unfoldable pub walkOf : Patch → Patch → Tolerance → Parameters → ℕ → Outcome
+walkOf a b tol guess n = afterSeed a b tol n (meetOf a b guess tol)
 
 -- ---- the call: "refusals before 9 touch nothing"; "beyond that nothing changes"
 
 -- a refusal before 9, or what the walk answers and leaves
 abbrev pub afterCall : Patch → Patch → Tolerance → Parameters → ℕ → List Float → Fitness → Outcome
 afterCall a b tol guess n l (Unfit r) = record { answer = Refused r; buffer = l }
-afterCall a b tol guess n l Fit = record { answer = walkedOf a b tol guess n .answer; buffer = walkedOf a b tol guess n .buffer ++ drop (room n) l }
+afterCall a b tol guess n l Fit = record { answer = walkOf a b tol guess n .answer; buffer = walkOf a b tol guess n .buffer ++ drop (room n) l }
 
 -- the call: its answer, and the whole buffer after it
 unfoldable pub traceOf : Patch → Patch → Tolerance → Parameters → ℕ → List Float → Outcome

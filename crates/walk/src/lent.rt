@@ -8,8 +8,8 @@ ghost use mathlib.Core.List.{_++_};
 ghost use Prim.Native.Nat.{_+_, _*_, _-_, _≤_};
 ghost use lib.ListN.{length, take, replicate};
 ghost use Rattle.groups.specs.Groups.{width};
-ghost use Rattle.groups.specs.Row.{zero};
-ghost use Rattle.walk.specs.Lent.{placed, turnedOf, rowFor};
+ghost use Rattle.number.specs.Helpers.{positiveZero};
+ghost use Rattle.walk.specs.Lent.{placed, reversedOf, rowFor};
 
 // A point's numbers, from index `at` on.
 pub(crate) fn put(out: &mut [f64], at: usize, row: Row)
@@ -41,9 +41,9 @@ pub(crate) fn row_for(q: Point3D, x: Parameters) -> Row
 }
 
 // The k points of the slice turned round in place.
-pub(crate) fn turn(points: &mut [f64], k: usize)
+pub(crate) fn reverse(points: &mut [f64], k: usize)
     requires { ⌜ (length (now points) ≡ width * k) × (k ≤ 4001) ⌝ }
-    ensures { λ _. ⌜ now (points .exit) ≡ turnedOf k (now (points .entry)) ⌝ }
+    ensures { λ _. ⌜ now (points .exit) ≡ reversedOf k (now (points .entry)) ⌝ }
 {
     for i in 0..k / 2 {
         let j = k - 1 - i;
@@ -57,7 +57,7 @@ pub(crate) fn turn(points: &mut [f64], k: usize)
 // Zeros from index `from` on.
 pub(crate) fn clear(points: &mut [f64], from: usize)
     requires { ⌜ from ≤ length (now points) ⌝ }
-    ensures { λ _. ⌜ now (points .exit) ≡ take from (now (points .entry)) ++ replicate (length (now (points .entry)) - from) zero ⌝ }
+    ensures { λ _. ⌜ now (points .exit) ≡ take from (now (points .entry)) ++ replicate (length (now (points .entry)) - from) positiveZero ⌝ }
 {
     for i in from..points.len() {
         points[i] = 0.0;

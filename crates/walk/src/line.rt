@@ -4,8 +4,8 @@ use crate::answer::Traced;
 use crate::half::half;
 use crate::lent::clear;
 use crate::lent::put;
+use crate::lent::reverse;
 use crate::lent::row_for;
-use crate::lent::turn;
 use geometry::Point3D;
 use geometry::Tolerance;
 use geometry::Vector3D;
@@ -31,8 +31,8 @@ fn join(points: &mut [f64], forward: usize, backward: usize)
     let count = 1 + forward + backward;
     let used = WIDTH * count;
     let from = WIDTH * backward;
-    turn(&mut points[..used], count);
-    turn(&mut points[from..used], 1 + forward);
+    reverse(&mut points[..used], count);
+    reverse(&mut points[from..used], 1 + forward);
 }
 
 // A line of fewer than 4 points is refused and nothing of it is left; otherwise zeros follow it.

@@ -15,7 +15,7 @@ use refusal::Refusal;
 ghost use mathlib.Core.Path.{_≡_};
 ghost use Prim.Native.Nat.{_≤_};
 ghost use lib.ListN.{length};
-ghost use Rattle.walk.specs.Trace.{guessFinite, limitsOf, callFitness, room, walkedOf, traceOf};
+ghost use Rattle.walk.specs.Trace.{guessFinite, limitsOf, callFitness, room, walkOf, traceOf};
 
 // The least and the greatest step cap.
 const LEAST_CAP: usize = 2;
@@ -88,7 +88,7 @@ fn call_fitness(
 }
 
 // The walk from a guess: 9 where it leads to no meeting, 10 where the meeting has no direction; zeros are left with both.
-fn walked(
+fn walk_from(
     points: &mut [f64],
     a: Patch,
     b: Patch,
@@ -97,7 +97,7 @@ fn walked(
     n: usize,
 ) -> Traced
     requires { ⌜ (n ≤ 2000) × (length (now points) ≡ room n) ⌝ }
-    ensures { λ r. ⌜ (r ≡ walkedOf a b tol guess n .answer) × (now (points .exit) ≡ walkedOf a b tol guess n .buffer) ⌝ }
+    ensures { λ r. ⌜ (r ≡ walkOf a b tol guess n .answer) × (now (points .exit) ≡ walkOf a b tol guess n .buffer) ⌝ }
 {
     let Met::At(seed) = meet(a, b, guess, tol) else {
         clear(&mut *points, 0);
@@ -129,7 +129,7 @@ pub fn trace(
         Fitness::Unfit(refusal) => Traced::Refused(refusal),
         Fitness::Fit => {
             let room = WIDTH * (2 * cap + 1);
-            walked(&mut buffer[..room], a, b, tol, guess, cap)
+            walk_from(&mut buffer[..room], a, b, tol, guess, cap)
         }
     }
 }

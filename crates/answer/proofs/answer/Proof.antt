@@ -1,4 +1,3 @@
--- `answer::answer` meets its contract: each way out has its tests, and what it calls its own. Assumes nothing.
 use borrow.Author.Needs.{needs}
 use Rattle.answer.specs.Answer.{jobAnswer}
 use Rattle.answer.proofs.Told.{line-tells}

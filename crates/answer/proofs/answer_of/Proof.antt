@@ -1,4 +1,3 @@
--- `answer::answer_of` meets its contract: each way out has its tests, and what it calls its own. Assumes nothing.
 use borrow.Author.Needs.{needs}
 use Rattle.answer.specs.Answer.{answerOf, lentNumbers}
 use Rattle.answer.proofs.answer_of.Statement.{statement}

@@ -1,4 +1,3 @@
--- `answer::put_line` meets its contract: each way out has its tests, and what it calls its own. Assumes nothing.
 use borrow.Author.Needs.{needs}
 use Rattle.refusal.proofs.Laws.{number-not-0}
 use Rattle.answer.specs.Answer.{answerLine}

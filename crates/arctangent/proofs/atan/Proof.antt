@@ -1,4 +1,3 @@
--- `atan` meets its contract: each way out has its tests. Assumes nothing.
 use borrow.Author.Needs.{needs}
 use borrow.Author.Tests.{lt-ltb, le-ltb, le-leb, lt-leb, ne-eqb}
 use Rattle.fdlibm.specs.Arctangent.{atanOf}

@@ -1,4 +1,3 @@
--- `atan2` meets its contract: each way out has its tests. Assumes nothing.
 use borrow.Author.Needs.{needs}
 use borrow.Author.Tests.{ne-eqb}
 use native.Mathlib.Omega.{arith}

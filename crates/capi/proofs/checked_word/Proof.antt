@@ -1,4 +1,3 @@
--- `capi::checked_word` meets its contract: each way out has its tests, and what it calls its own. Assumes nothing.
 use borrow.Author.Needs.{needs}
 use Rattle.capi.proofs.Words.{number-fits, refusal-fits}
 use Rattle.capi.specs.Check.{checkedWord}

@@ -1,4 +1,4 @@
--- `capi::corner` meets its contract: it is the point of the numbers read. Assumes nothing.
+-- It is the point of the numbers read.
 use borrow.Author.Needs.{needs}
 use Rattle.capi.proofs.corner.Statement.{statement}
 use Rattle.capi.proofs.corner.Tie as tie

@@ -1,4 +1,3 @@
--- `capi::geomcore_crossing` meets its contract: each way out has its tests, and what it calls its own. Assumes nothing.
 use borrow.Author.Tests.{lt-ltb}
 use denote.Ref.{now}
 use Rattle.capi.proofs.Answers.{crossing-word}

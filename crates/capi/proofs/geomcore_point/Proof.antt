@@ -1,4 +1,3 @@
--- `capi::geomcore_point` meets its contract: each way out has its tests, and what it calls its own. Assumes nothing.
 use borrow.Author.Needs.{needs}
 use Rattle.capi.specs.Point.{pointAnswer}
 use Rattle.capi.proofs.geomcore_point.Statement.{statement}

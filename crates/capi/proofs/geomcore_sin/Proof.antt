@@ -1,4 +1,3 @@
--- `capi::geomcore_sin` meets its contract: it is that of the function it calls. Assumes nothing.
 use borrow.Author.Needs.{needs}
 use Rattle.capi.proofs.geomcore_sin.Statement.{statement}
 use Rattle.capi.proofs.geomcore_sin.Tie as tie

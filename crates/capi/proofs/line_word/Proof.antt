@@ -1,4 +1,4 @@
--- `capi::line_word` meets its contract: the parts are small enough for their places. Assumes nothing.
+-- The parts are small enough for their places.
 use native.Mathlib.Omega.{arith}
 use borrow.Author.Needs.{needs}
 use Rattle.capi.proofs.line_word.Statement.{statement}

@@ -1,4 +1,3 @@
--- `capi::point_on` meets its contract: each way out has its tests, and what it calls its own. Assumes nothing.
 use borrow.Author.Needs.{needs}
 use borrow.Author.Tests.{lt-ltb}
 use denote.Ref.{now}

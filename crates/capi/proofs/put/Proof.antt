@@ -1,4 +1,3 @@
--- `capi::put` meets its contract: each way out has its tests, and what it calls its own. Assumes nothing.
 use borrow.Author.Needs.{needs}
 use mathlib.Core.Path.{refl}
 use lib.ListN.{length-set}

@@ -1,4 +1,3 @@
--- `capi::traced_word` meets its contract: each way out has its tests, and what it calls its own. Assumes nothing.
 use native.Mathlib.Omega.{arith}
 use borrow.Author.Needs.{needs}
 use Rattle.capi.proofs.Words.{line-fits}

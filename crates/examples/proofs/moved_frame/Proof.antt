@@ -1,4 +1,3 @@
--- `charted::moved_frame` meets its contract. Assumes nothing.
 use borrow.Author.Needs.{needs}
 use Rattle.examples.proofs.moved_frame.Statement.{statement}
 use Rattle.examples.proofs.moved_frame.Tie as tie

@@ -1,10 +1,9 @@
--- `charted::nine` meets its contract: that of the trace it calls. Assumes nothing.
 use mathlib.Core.Path.{_≡_, ap, _∙_}
 use denote.Ref.{now}
 use Rattle.geometry.specs.Tolerance.{defaultTolerance}
 use Rattle.patch.specs.declared.patch.Patch.{Patch}
 use Rattle.walk.specs.Trace.{Outcome, traceOf}
-use Rattle.groups.specs.Row.{zero}
+use Rattle.number.specs.Helpers.{positiveZero}
 use Rattle.examples.specs.Table.{parameters, movedFrame, unitFrame, squarePlane, nineOf}
 use borrow.Author.Needs.{needs}
 use Rattle.examples.proofs.nine.Statement.{statement}
@@ -39,7 +38,7 @@ returns c =
     let b-is : c .before .before .before .before .square-plane2 .result ≡ squarePlane (movedFrame (g .by)) =
     c .before .before .before .before .square-plane2 .ensures ∙ ap squarePlane (c .before .before .before .before .before .moved-frame .ensures)
     in
-    let call : (a b : Patch) → Outcome = λ a b. traceOf a b defaultTolerance (parameters zero zero zero zero) 2 (now (g .lent)) in
+    let call : (a b : Patch) → Outcome = λ a b. traceOf a b defaultTolerance (parameters positiveZero positiveZero positiveZero positiveZero) 2 (now (g .lent)) in
     let same : call (c .before .before .before .before .before .before .square-plane .result) (c .before .before .before .before .square-plane2 .result) ≡ nineOf (g .by) (now (g .lent)) =
     ap (λ (a : Patch). call a (c .before .before .before .before .square-plane2 .result)) a-is ∙ ap (call (squarePlane unitFrame)) b-is
     in

@@ -1,4 +1,3 @@
--- `charted::square_plane` meets its contract. Assumes nothing.
 use mathlib.Core.Path.{refl}
 use lib.Ieee.{ofBits, neg}
 use Rattle.examples.proofs.square_plane.Statement.{statement}

@@ -1,4 +1,3 @@
--- `charted::unit_frame` meets its contract. Assumes nothing.
 use Rattle.geometry.specs.Vector.{zeroVector}
 use borrow.Author.Needs.{needs}
 use Rattle.examples.proofs.unit_frame.Statement.{statement}

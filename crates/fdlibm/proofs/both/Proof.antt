@@ -1,4 +1,3 @@
--- `both` meets its contract: each way out has its tests. Assumes nothing.
 use borrow.Author.Needs.{needs}
 use borrow.Author.Tests.{le-leb, lt-leb}
 use lib.Ieee.{ofBits, div}

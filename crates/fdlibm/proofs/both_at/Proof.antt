@@ -1,4 +1,4 @@
--- `both_at` meets its contract, quadrant by quadrant. Assumes nothing.
+-- Quadrant by quadrant.
 use borrow.Author.Needs.{needs}
 use borrow.Author.Tests.{ne-eqb}
 use Rattle.fdlibm.specs.Sine.{sinAt, cosAt}

@@ -1,4 +1,4 @@
--- `fdlibm::sin_cos` meets its contract: both come from one call. Assumes nothing.
+-- Both come from one call.
 use borrow.Author.Needs.{needs}
 use Rattle.fdlibm.proofs.sin_cos.Statement.{statement}
 use Rattle.fdlibm.proofs.sin_cos.Tie as tie

@@ -1,4 +1,3 @@
--- `groups::holds` meets its contract. Assumes nothing.
 use native.Mathlib.Omega.{arith}
 use Rattle.groups.specs.Groups.{width}
 use Rattle.groups.proofs.Groups.{holds-quotient}

@@ -1,4 +1,4 @@
--- `number::abs` meets its contract: the mask takes the sign bit off a pattern that is no NaN's. Assumes nothing.
+-- The mask takes the sign bit off a pattern that is no NaN's.
 use mathlib.Core.Path.{sym, ap, _∙_, subst}
 use Prim.Native.Nat.{ℕ}
 use mathlib.Core.Bool.{not}

@@ -1,4 +1,4 @@
--- `number::from_bits` meets its contract: a pattern is a NaN's where it is above infinity's, the sign bit aside. Assumes nothing.
+-- A pattern is a NaN's where it is above infinity's, the sign bit aside.
 use mathlib.Core.Path.{_≡_, refl, sym, _∙_, subst}
 use Prim.Native.Nat.{ℕ, _%_, _^_, _<_, _≤_}
 use native.Mathlib.Omega.{arith}

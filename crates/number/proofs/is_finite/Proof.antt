@@ -1,4 +1,4 @@
--- `number::is_finite` meets its contract: a number is finite where it lies between the two infinities. Assumes nothing.
+-- A number is finite where it lies between the two infinities.
 use mathlib.Core.Path.{_≡_, refl, sym}
 use mathlib.Core.Bool.{true, false}
 use lib.Ieee.{Float, nan, inf, fin, ofBits, neg, div, lt}

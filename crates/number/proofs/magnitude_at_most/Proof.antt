@@ -1,4 +1,4 @@
--- `number::magnitude_at_most` meets its contract, by that of `abs`. Assumes nothing.
+-- By that of `abs`.
 use borrow.Author.Needs.{needs}
 use Rattle.number.proofs.magnitude_at_most.Statement.{statement}
 use Rattle.number.proofs.magnitude_at_most.Tie as tie

@@ -1,4 +1,4 @@
--- `number::number_fit` meets its contract: that of the comparison with 2^20. Assumes nothing.
+-- That of the comparison with 2^20.
 use borrow.Author.Needs.{needs}
 use Rattle.number.specs.Helpers.{numberFit}
 use Rattle.number.proofs.number_fit.Statement.{statement}

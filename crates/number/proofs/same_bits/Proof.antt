@@ -1,4 +1,4 @@
--- `number::same_bits` meets its contract, by that of `to_bits`. Assumes nothing.
+-- By that of `to_bits`.
 use borrow.Author.Needs.{needs}
 use Rattle.number.specs.Helpers.{sameBits}
 use Rattle.number.proofs.same_bits.Statement.{statement}

@@ -1,4 +1,4 @@
--- `number::to_bits` meets its contract: at a NaN it writes the pattern that the logic's `toBits` has. Assumes nothing.
+-- At a NaN it writes the pattern that the logic's `toBits` has.
 use mathlib.Core.Path.{refl, sym, ap}
 use lib.Ieee.{binary64, toBits}
 use Rattle.number.proofs.Sign.{is-nan, no-nan}

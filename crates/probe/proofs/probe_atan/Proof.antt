@@ -1,4 +1,3 @@
--- `probe::probe_atan` meets its contract: it is that of the function it calls. Assumes nothing.
 use borrow.Author.Needs.{needs}
 use Rattle.probe.proofs.probe_atan.Statement.{statement}
 use Rattle.probe.proofs.probe_atan.Tie as tie

@@ -1,4 +1,4 @@
--- `probe::probe_solve` meets its contract: each size has its solver. Assumes nothing.
+-- Each size has its solver.
 use borrow.Author.Tests.{eq-eqb, ne-eqb}
 use borrow.Author.Needs.{needs}
 use Rattle.probe.specs.Probe.{probeOf}

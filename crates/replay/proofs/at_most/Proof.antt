@@ -1,4 +1,3 @@
--- `replay::at_most` meets its contract. Assumes nothing.
 use borrow.Author.Tests.{lt-ltb, le-ltb}
 use native.Mathlib.Omega.{arith}
 use Rattle.replay.proofs.at_most.Statement.{statement}

@@ -1,4 +1,3 @@
--- `replay::counted` meets its contract. Assumes nothing.
 use borrow.Author.Tests.{eq-eqb, ne-eqb}
 use Rattle.replay.proofs.counted.Statement.{statement}
 use Rattle.replay.proofs.counted.Tie as tie

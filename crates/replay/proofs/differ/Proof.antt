@@ -1,4 +1,4 @@
--- `replay::differ` meets its contract: the search goes on as the definition's does. Assumes nothing.
+-- The search goes on as the definition's does.
 use mathlib.Core.Bool.{true, false}
 use mathlib.Core.List.{List}
 use mathlib.Core.Path.{_≡_, refl}
@@ -9,8 +9,8 @@ use lib.ListN.{length, getD}
 use borrow.Author.Tests.{eq-eqb, ne-eqb}
 use borrow.Author.Needs.{needs}
 use native.Mathlib.Omega.{arith}
-use Rattle.loops.specs.Some.{some}
-use Rattle.loops.proofs.Some.{some-again, some-leave, some-done}
+use Rattle.loops.specs.Any.{anyIn}
+use Rattle.loops.proofs.Any.{any-again, any-leave, any-done}
 use Rattle.replay.specs.Word.{wordAt, differAt, differOf}
 use Rattle.replay.proofs.differ.Statement.{statement}
 use Rattle.replay.proofs.differ.Tie as tie
@@ -22,7 +22,7 @@ alike : (s : List ℕ) (t : List Float) (k b w : ℕ) → b ≡ toBits binary64 
 alike s t k b w e f h = rw (← e, ← f, eq-eqb b w h)
 
 abbrev Inv-loop : tie.InvT-loop
-Inv-loop words numbers k₀ k-end k = (some (differAt words numbers) k (length numbers) ≡ differOf words numbers) × ((k ≤ length numbers) × (k-end ≡ length numbers))
+Inv-loop words numbers k₀ k-end k = (anyIn (differAt words numbers) k (length numbers) ≡ differOf words numbers) × ((k ≤ length numbers) × (k-end ≡ length numbers))
 
 abbrev μ-loop : tie.MeasureT-loop
 μ-loop words numbers k₀ k-end k = k-end - k
@@ -51,7 +51,7 @@ returns c =
     let p = w .before .before .before .before in
     let g = p .before .before .before .args in
     let e = unlike (now (g .words)) (now (g .numbers)) (p .loop .k) (w .before .to-bits .result) (w .word .result) (w .before .to-bits .ensures) (w .word .ensures) (c .if1 .taken) in
-    some-leave (differAt (now (g .words)) (now (g .numbers))) (p .loop .k) (length (now (g .numbers))) (w .before .before .before .loop-test .taken) e (p .loop .inv .0)
+    any-leave (differAt (now (g .words)) (now (g .numbers))) (p .loop .k) (length (now (g .numbers))) (w .before .before .before .loop-test .taken) e (p .loop .inv .0)
 
 add-k : tie.Need-add-k Inv-loop μ-loop
 add-k c = search needs
@@ -65,12 +65,12 @@ loop-again c =
     let p = w .before .before .before .before in
     let g = p .before .before .before .args in
     let e = alike (now (g .words)) (now (g .numbers)) (p .loop .k) (w .before .to-bits .result) (w .word .result) (w .before .to-bits .ensures) (w .word .ensures) (c .if1 .left) in
-    (some-again (differAt (now (g .words)) (now (g .numbers))) (p .loop .k) (length (now (g .numbers))) (w .before .before .before .loop-test .taken) e (p .loop .inv .0), omega arith)
+    (any-again (differAt (now (g .words)) (now (g .numbers))) (p .loop .k) (length (now (g .numbers))) (w .before .before .before .loop-test .taken) e (p .loop .inv .0), omega arith)
 
 returns-2 : tie.Need-returns-2 Inv-loop μ-loop
 returns-2 c =
     let g = c .before .before .before .before .args in
-    some-done (differAt (now (g .words)) (now (g .numbers))) (c .before .loop .k) (length (now (g .numbers))) (c .loop-test .left) (c .before .loop .inv .0)
+    any-done (differAt (now (g .words)) (now (g .numbers))) (c .before .loop .k) (length (now (g .numbers))) (c .loop-test .left) (c .before .loop .inv .0)
 
 pub differ-spec : {M : Type 1} → statement M
 differ-spec =

@@ -1,4 +1,4 @@
--- `replay::ended` meets its contract: the two sides are one struct. Assumes nothing.
+-- The two sides are one struct.
 use mathlib.Core.Path.{refl}
 use Rattle.replay.proofs.ended.Statement.{statement}
 use Rattle.replay.proofs.ended.Tie as tie

@@ -1,4 +1,4 @@
--- `replay::load` meets its contract: each turn writes the number of its word. Assumes nothing.
+-- Each turn writes the number of its word.
 use mathlib.Core.Path.{_≡_, refl}
 use Prim.Native.Nat.{_-_, _≤_}
 use lib.ListN.{length, length-set}

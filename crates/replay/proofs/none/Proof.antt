@@ -1,4 +1,4 @@
--- `replay::none` meets its contract: the two sides are one struct. Assumes nothing.
+-- The two sides are one struct.
 use mathlib.Core.Path.{refl}
 use Rattle.replay.proofs.none.Statement.{statement}
 use Rattle.replay.proofs.none.Tie as tie

@@ -1,4 +1,4 @@
--- `replay_crossing::numbers` is safe and ends: as many turns as coordinates are left. Assumes nothing.
+-- As many turns as coordinates are left.
 use Prim.Native.Nat.{_-_, _≤_}
 use borrow.Author.Needs.{needs}
 use Rattle.replay_crossing.proofs.numbers.Statement.{statement}

@@ -1,4 +1,4 @@
--- `inside` meets its contract: the mark, or a comparison in bits. Assumes nothing.
+-- The mark, or a comparison in bits.
 use borrow.Author.Needs.{needs}
 use borrow.Author.Tests.{ne-eqb}
 use Rattle.replay_fdlibm.specs.Marked.{insideOf}

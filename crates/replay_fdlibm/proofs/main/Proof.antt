@@ -1,4 +1,4 @@
--- `main` is safe and ends: a million records at most. Assumes nothing.
+-- A million records at most.
 use borrow.Author.Needs.{needs}
 use mathlib.Core.Path.{_≡_}
 use Prim.Native.Nat.{_≤_, _-_}

@@ -1,4 +1,4 @@
--- `outside` meets its contract: the mark, or nothing counted. Assumes nothing.
+-- The mark, or nothing counted.
 use borrow.Author.Needs.{needs}
 use borrow.Author.Tests.{ne-eqb}
 use Rattle.replay_fdlibm.specs.Marked.{outsideOf}

@@ -1,4 +1,4 @@
--- `replay_job::one` is safe and ends: the line's bytes are there to be lent on. Assumes nothing.
+-- The line's bytes are there to be lent on.
 use borrow.Author.Needs.{needs}
 use Rattle.answer.proofs.Text.{line-holds, line-count}
 use Rattle.replay_job.proofs.one.Statement.{statement}

@@ -1,4 +1,3 @@
--- `replay_sqrt::main` is safe and ends. The measure is the number of turns that are left. Assumes nothing.
 use borrow.Author.Needs.{needs}
 use Rattle.replay_sqrt.proofs.main.Statement.{statement}
 use Rattle.replay_sqrt.proofs.main.Tie as tie

@@ -1,4 +1,4 @@
--- `replay_trace::filled` is safe and ends: as many turns as numbers are left. Assumes nothing.
+-- As many turns as numbers are left.
 use Prim.Native.Nat.{_-_, _≤_}
 use borrow.Author.Needs.{needs}
 use Rattle.replay_trace.proofs.filled.Statement.{statement}

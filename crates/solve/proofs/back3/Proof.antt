@@ -1,17 +1,17 @@
--- `solve::back3` meets its contract: each turn finds an entry, from the last up. Assumes nothing.
+-- Each turn finds an entry, from the last up.
 use mathlib.Core.Path.{_≡_, refl}
 use Prim.Native.Nat.{_-_, _≤_}
 use borrow.Author.Needs.{needs}
 use native.Mathlib.Omega.{arith}
 use Rattle.loops.specs.Loop.{ranged}
 use Rattle.loops.proofs.Loop.{ranged-again, ranged-done}
-use Rattle.solve.specs.Solve.{system, backTurn, backSubstitution}
+use Rattle.solve.specs.Solve.{system, backBody, backSubstitution}
 use Rattle.solve.proofs.Laws.{row-solved}
 use Rattle.solve.proofs.back3.Statement.{statement}
 use Rattle.solve.proofs.back3.Tie as tie
 
 abbrev Inv-loop : tie.InvT-loop
-Inv-loop m b x₀ i₀ x i = (ranged (backTurn 3 (system m b)) i 3 x ≡ backSubstitution 3 (system m b)) × (i ≤ 3)
+Inv-loop m b x₀ i₀ x i = (ranged (backBody 3 (system m b)) i 3 x ≡ backSubstitution 3 (system m b)) × (i ≤ 3)
 
 abbrev μ-loop : tie.MeasureT-loop
 μ-loop m b x₀ i₀ x i = 3 - i

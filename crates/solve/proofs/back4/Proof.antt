@@ -1,17 +1,17 @@
--- `solve::back4` meets its contract: each turn finds an entry, from the last up. Assumes nothing.
+-- Each turn finds an entry, from the last up.
 use mathlib.Core.Path.{_≡_, refl}
 use Prim.Native.Nat.{_-_, _≤_}
 use borrow.Author.Needs.{needs}
 use native.Mathlib.Omega.{arith}
 use Rattle.loops.specs.Loop.{ranged}
 use Rattle.loops.proofs.Loop.{ranged-again, ranged-done}
-use Rattle.solve.specs.Solve.{system, backTurn, backSubstitution}
+use Rattle.solve.specs.Solve.{system, backBody, backSubstitution}
 use Rattle.solve.proofs.Laws.{row-solved}
 use Rattle.solve.proofs.back4.Statement.{statement}
 use Rattle.solve.proofs.back4.Tie as tie
 
 abbrev Inv-loop : tie.InvT-loop
-Inv-loop m b x₀ i₀ x i = (ranged (backTurn 4 (system m b)) i 4 x ≡ backSubstitution 4 (system m b)) × (i ≤ 4)
+Inv-loop m b x₀ i₀ x i = (ranged (backBody 4 (system m b)) i 4 x ≡ backSubstitution 4 (system m b)) × (i ≤ 4)
 
 abbrev μ-loop : tie.MeasureT-loop
 μ-loop m b x₀ i₀ x i = 4 - i

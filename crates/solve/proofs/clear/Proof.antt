@@ -1,4 +1,4 @@
--- `solve::clear` meets its contract: each turn takes a multiple of the pivot's entry off, and the row keeps its length. Assumes nothing.
+-- Each turn takes a multiple of the pivot's entry off, and the row keeps its length.
 use mathlib.Core.Path.{_≡_, refl}
 use Prim.Native.Nat.{_-_, _≤_}
 use lib.ListN.{length, length-set}

@@ -1,4 +1,3 @@
--- `solve::greater` meets its contract: each way out has its test. Assumes nothing.
 use mathlib.Core.Path.{_≡_, refl}
 use mathlib.Core.Bool.{true, false}
 use borrow.Author.Needs.{needs}

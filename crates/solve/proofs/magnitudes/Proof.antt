@@ -1,4 +1,4 @@
--- `solve::magnitudes` meets its contract: each turn adds a magnitude. Assumes nothing.
+-- Each turn adds a magnitude.
 use mathlib.Core.Path.{_≡_, refl, ap}
 use Prim.Native.Nat.{_-_, _≤_}
 use borrow.Author.Needs.{needs}

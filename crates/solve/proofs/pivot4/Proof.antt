@@ -1,4 +1,4 @@
--- `solve::pivot4` meets its contract: each turn keeps the better row, and its entry. Assumes nothing.
+-- Each turn keeps the better row, and its entry.
 use mathlib.Core.Path.{_≡_, refl}
 use Prim.Native.Nat.{_-_, _≤_, _<_}
 use borrow.Author.Needs.{needs}

@@ -1,4 +1,4 @@
--- `solve::rest` meets its contract: each turn takes a product off. Assumes nothing.
+-- Each turn takes a product off.
 use mathlib.Core.Path.{_≡_, refl}
 use Prim.Native.Nat.{_-_, _≤_}
 use borrow.Author.Needs.{needs}

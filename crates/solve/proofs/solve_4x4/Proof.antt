@@ -1,4 +1,4 @@
--- `solve::solve_4x4` meets its contract: each column is one of the definition, which goes on or gives up. Assumes nothing.
+-- Each column is one of the definition, which goes on or gives up.
 use mathlib.Core.Path.{ap, _∙_}
 use Prim.{tt}
 use lib.Dec.{lit<, lit≤}

@@ -1,4 +1,4 @@
--- `sqrt::at_most` meets its contract: `far` and `near` of `AtMost`, or the root itself. Assumes nothing.
+-- `far` and `near` of `AtMost`, or the root itself.
 use mathlib.Core.Path.{sym}
 use denote.Floats.{passes}
 use borrow.Author.Needs.{needs}

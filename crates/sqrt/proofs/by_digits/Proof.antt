@@ -1,4 +1,4 @@
--- `sqrt::by_digits` meets its contract. The invariant: the digits found and those left make up the number, at each turn. Assumes nothing.
+-- The invariant: the digits found and those left make up the number, at each turn.
 use mathlib.Core.Path.{_≡_, sym, ap, _∙_, subst}
 use Prim.Native.Nat.{ℕ, suc, _+_, _-_, _*_, _/_, _%_, _^_, _≤_, _<_}
 use native.Mathlib.Nat.{lt-of-lt-of-le, mul-assoc, pow-suc, mod-eq-of-lt, mod-lt, zero-add, mul-comm, mul-one, mul-pos}

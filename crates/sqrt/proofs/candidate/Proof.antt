@@ -1,4 +1,4 @@
--- `sqrt::candidate` meets its contract: its pattern is no NaN's, and a NaN stays one. Assumes nothing.
+-- Its pattern is no NaN's, and a NaN stays one.
 use mathlib.Core.Path.{sym, subst}
 use Prim.Native.Nat.{ℕ, _*_, _^_, _≤_}
 use native.Mathlib.Omega.{arith}

@@ -1,4 +1,4 @@
--- `sqrt::nearest` meets its contract: the candidate where the test passes it, else the digits one by one. Assumes nothing.
+-- The candidate where the test passes it, else the digits one by one.
 use mathlib.Core.Path.{_≡_, sym, subst}
 use Prim.Native.Nat.{ℕ, _+_, _*_, _%_, _^_, _≤_, _<_}
 use native.Mathlib.Nat.{lt-of-lt-of-le}

@@ -1,4 +1,4 @@
--- `sqrt::root_of` meets its contract: the digits and the halved exponent are the bits of the root. Assumes nothing.
+-- The digits and the halved exponent are the bits of the root.
 use mathlib.Core.Path.{sym, ap, _∙_, subst}
 use Prim.Native.Nat.{ℕ, _+_, _*_, _/_, _%_, _^_, _≤_, _<_}
 use native.Mathlib.Omega.{arith}

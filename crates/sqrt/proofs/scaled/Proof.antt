@@ -1,4 +1,4 @@
--- `sqrt::scaled` meets its contract: the shift takes no bit off. Assumes nothing.
+-- The shift takes no bit off.
 use mathlib.Core.Path.{_≡_, refl, sym, ap, _∙_, subst}
 use Prim.Native.Nat.{ℕ, zero, suc, _+_, _-_, _*_, _%_, _^_, _≤_, _<_}
 use native.Mathlib.Nat.{mul-one, add-comm}
@@ -6,7 +6,7 @@ use native.Mathlib.Omega.{arith}
 use lib.Count.{leadingZeros, leading-le}
 use lib.Dec.{lit≤}
 use borrow.Author.Needs.{needs}
-use Rattle.number.specs.Units.{unit}
+use Rattle.number.specs.Units.{unitsInOne}
 use Rattle.sqrt.specs.Nearest.{IsScaled, unitsOf}
 use Rattle.sqrt.proofs.Scale.{Shifted, shifted, shift-is, scaled}
 use Rattle.sqrt.proofs.scaled.Statement.{statement}
@@ -30,7 +30,7 @@ small : (t z : ℕ) → Shifted t z → IsScaled 0 t ((t * 2 ^ z) % 2 ^ 64) (102
 unfolding unitsOf
 small t z s =
     subst (λ (m : ℕ). IsScaled 0 t m (1022 - z)) (sym (shift-is t z 53 (lit≤ tt) (s .hi)))
-    (record { lo = s .lo; hi = s .hi; top = omega arith; is = sym (ap (λ (x : ℕ). x * unit) (sym (mul-one t)) ∙ scaled t 0 z (s .few)) })
+    (record { lo = s .lo; hi = s .hi; top = omega arith; is = sym (ap (λ (x : ℕ). x * unitsInOne) (sym (mul-one t)) ∙ scaled t 0 z (s .few)) })
 
 -- ---- a normal one
 normal : (e t : ℕ) → (e ≡ 0 → ⊥) → e < 2047 → t < 4503599627370496 → IsScaled e t (t + 4503599627370496) (e + 1021)

@@ -1,4 +1,4 @@
--- `sqrt::sqrt` meets its contract. Each arm is a fact of `Fields` on the three fields, and `gives` turns the equation into the contract. Assumes nothing.
+-- Each arm is a fact of `Fields` on the three fields, and `gives` turns the equation into the contract.
 use mathlib.Core.Path.{_≡_, sym, ap, _∙_, subst}
 use Prim.Native.Nat.{ℕ, _/_, _%_, _^_, _≤_, _<_}
 use native.Mathlib.Omega.{arith}

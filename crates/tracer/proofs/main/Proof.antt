@@ -1,4 +1,4 @@
--- `tracer::main` is safe and ends: the line's bytes are there to be lent on. Assumes nothing.
+-- The line's bytes are there to be lent on.
 use borrow.Author.Needs.{needs}
 use Rattle.answer.proofs.Text.{line-holds, line-count}
 use Rattle.tracer.proofs.main.Statement.{statement}

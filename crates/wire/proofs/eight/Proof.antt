@@ -1,4 +1,3 @@
--- `wire::eight` meets its contract: each way out has its tests, and what it calls its own. Assumes nothing.
 use borrow.Author.Needs.{needs}
 use Rattle.wire.specs.Wire.{eightAt}
 use Rattle.wire.proofs.eight.Statement.{statement}

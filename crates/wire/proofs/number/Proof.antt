@@ -1,4 +1,3 @@
--- `wire::number` meets its contract: each way out has its tests, and what it calls its own. Assumes nothing.
 use borrow.Author.Needs.{needs}
 use Rattle.wire.specs.Wire.{numberAt}
 use Rattle.wire.proofs.number.Statement.{statement}

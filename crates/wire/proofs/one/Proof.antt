@@ -1,4 +1,3 @@
--- `wire::one` meets its contract: each way out has its tests, and what it calls its own. Assumes nothing.
 use borrow.Author.Needs.{needs}
 use Rattle.wire.specs.Wire.{byteAt}
 use Rattle.wire.proofs.one.Statement.{statement}

@@ -1,4 +1,3 @@
--- `analytic::analytic::cylinder_derivatives` meets its contract: each way out has its tests, and what it calls its own. Assumes nothing.
 use borrow.Author.Needs.{needs}
 use Rattle.analytic.proofs.Scaled.{cylinder-scaled}
 use Rattle.analytic.proofs.analytic.cylinder_derivatives.Statement.{statement}

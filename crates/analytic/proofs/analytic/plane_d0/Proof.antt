@@ -1,4 +1,3 @@
--- `analytic::analytic::plane_d0` meets its contract: each way out has its tests, and what it calls its own. Assumes nothing.
 use borrow.Author.Needs.{needs}
 use Rattle.analytic.specs.Analytic.{planeD0}
 use Rattle.analytic.proofs.analytic.plane_d0.Statement.{statement}

@@ -1,4 +1,3 @@
--- `analytic::analytic::plane_derivatives` meets its contract: each way out has its tests, and what it calls its own. Assumes nothing.
 use borrow.Author.Needs.{needs}
 use Rattle.analytic.specs.Analytic.{planeDerivatives}
 use Rattle.analytic.proofs.analytic.plane_derivatives.Statement.{statement}

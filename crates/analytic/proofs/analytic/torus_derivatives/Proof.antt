@@ -1,4 +1,3 @@
--- `analytic::analytic::torus_derivatives` meets its contract: each way out has its tests, and what it calls its own. Assumes nothing.
 use borrow.Author.Needs.{needs}
 use Rattle.analytic.proofs.Scaled.{torus-scaled}
 use Rattle.analytic.proofs.analytic.torus_derivatives.Statement.{statement}

@@ -1,4 +1,3 @@
--- `line::append` meets its contract: each way out has its tests, and what it calls its own. Assumes nothing.
 use borrow.Author.Needs.{needs}
 use native.Mathlib.Omega.{arith}
 use Rattle.answer.proofs.Text.{laid-part}

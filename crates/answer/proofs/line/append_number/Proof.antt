@@ -1,4 +1,3 @@
--- `line::append_number` meets its contract: each way out has its tests, and what it calls its own. Assumes nothing.
 use borrow.Author.Needs.{needs}
 use Rattle.answer.proofs.Text.{number-laid}
 use Rattle.answer.proofs.line.append_number.Statement.{statement}

@@ -1,4 +1,3 @@
--- `line::digit` meets its contract. Assumes nothing.
 use mathlib.Core.Path.{refl}
 use borrow.Author.Needs.{needs}
 use Rattle.answer.proofs.line.digit.Statement.{statement}

@@ -1,4 +1,4 @@
--- `line::digits` meets its contract: what is still to be spelled before the digits put down is what was to be spelled. Assumes nothing.
+-- What is still to be spelled before the digits put down is what was to be spelled.
 use mathlib.Core.Path.{_≡_}
 use Prim.Native.Nat.{_-_, _≤_}
 use native.Mathlib.Omega.{arith}

@@ -1,4 +1,3 @@
--- `line::refused_line` meets its contract: each way out has its tests, and what it calls its own. Assumes nothing.
 use borrow.Author.Needs.{needs}
 use mathlib.Core.List.{_++_}
 use Rattle.answer.specs.Line.{decimalOf, refusedWord, newline}

@@ -1,4 +1,3 @@
--- `atan_far` meets its contract: each way out has its tests. Assumes nothing.
 use borrow.Author.Tests.{ne-eqb}
 use Rattle.fdlibm.specs.Arctangent.{farOf}
 use Rattle.number.proofs.Sign.{ne-self}

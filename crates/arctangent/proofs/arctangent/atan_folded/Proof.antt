@@ -1,4 +1,3 @@
--- `atan_folded` meets its contract: each case has its tests. Assumes nothing.
 use borrow.Author.Needs.{needs}
 use borrow.Author.Tests.{lt-ltb, le-ltb}
 use Rattle.fdlibm.specs.Arctangent.{foldedOf}

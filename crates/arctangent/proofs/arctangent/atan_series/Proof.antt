@@ -1,4 +1,3 @@
--- `atan_series` meets its contract, operation by operation. Assumes nothing.
 use mathlib.Core.Path.{refl}
 use Rattle.arctangent.proofs.arctangent.atan_series.Statement.{statement}
 use Rattle.arctangent.proofs.arctangent.atan_series.Tie as tie

@@ -1,4 +1,3 @@
--- `by_signs` meets its contract, arm by arm. Assumes nothing.
 use borrow.Author.Tests.{ne-eqb}
 use Rattle.fdlibm.specs.Arctangent.{bySigns}
 use Rattle.arctangent.proofs.arctangent.by_signs.Statement.{statement}

@@ -1,4 +1,4 @@
--- `far_along` meets its contract, by that of `by_signs`. Assumes nothing.
+-- By that of `by_signs`.
 use borrow.Author.Needs.{needs}
 use borrow.Author.Tests.{ne-eqb}
 use Rattle.fdlibm.specs.Arctangent.{farAlong}

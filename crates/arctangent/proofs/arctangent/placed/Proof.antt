@@ -1,4 +1,4 @@
--- `placed` meets its contract, by that of `atan_series`. Assumes nothing.
+-- By that of `atan_series`.
 use borrow.Author.Needs.{needs}
 use Rattle.fdlibm.specs.Arctangent.{placedOf}
 use Rattle.arctangent.proofs.arctangent.placed.Statement.{statement}

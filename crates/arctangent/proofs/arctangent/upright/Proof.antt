@@ -1,4 +1,3 @@
--- `upright` meets its contract: each way out has its test. Assumes nothing.
 use borrow.Author.Tests.{ne-eqb}
 use Rattle.fdlibm.specs.Arctangent.{upright}
 use Rattle.arctangent.proofs.arctangent.upright.Statement.{statement}

@@ -1,4 +1,3 @@
--- `boxes::boxtree::apart_on` meets its contract: a law for each way out, from its test. Assumes nothing.
 use mathlib.Core.Path.{_≡_}
 use mathlib.Core.Bool.{true, false}
 use lib.Ieee.{Float}

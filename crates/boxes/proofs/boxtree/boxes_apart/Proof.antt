@@ -1,4 +1,3 @@
--- `boxes::boxtree::boxes_apart` meets its contract: a law for each way out, from its tests. Assumes nothing.
 use mathlib.Core.Path.{_≡_, sym, _∙_}
 use mathlib.Core.Bool.{Bool, true, false}
 use borrow.Author.Needs.{needs}

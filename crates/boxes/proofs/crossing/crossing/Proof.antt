@@ -1,4 +1,4 @@
--- `boxes::crossing::crossing` meets its contract: each way out has its tests; t, h, u, f, x are the places of the five calls. Assumes nothing.
+-- Each way out has its tests; t, h, u, f, x are the places of the five calls.
 use borrow.Author.Tests.{le-ltb, lt-ltb, not-false, not-true}
 use mathlib.Core.Path.{sym, _∙_}
 use native.Mathlib.Omega.{arith}

@@ -1,9 +1,9 @@
--- `boxes::crossing::some_unfit` meets its contract: the search goes on as the definition's does. Assumes nothing.
+-- The search goes on as the definition's does.
 use mathlib.Core.Path.{_≡_, refl, _∙_}
 use Prim.Native.Nat.{_-_, _≤_}
 use denote.Ref.{now}
-use Rattle.loops.specs.Some.{some}
-use Rattle.loops.proofs.Some.{some-again, some-leave, some-done}
+use Rattle.loops.specs.Any.{anyIn}
+use Rattle.loops.proofs.Any.{any-again, any-leave, any-done}
 use Rattle.boxes.specs.Crossing.{unfitAt, someUnfit}
 use Rattle.boxes.proofs.Turns.{unfit-turn}
 use borrow.Author.Needs.{needs}
@@ -12,7 +12,7 @@ use Rattle.boxes.proofs.crossing.some_unfit.Statement.{statement}
 use Rattle.boxes.proofs.crossing.some_unfit.Tie as tie
 
 abbrev Inv-loop : tie.InvT-loop
-Inv-loop points count i₀ i = (some (unfitAt points) i count ≡ someUnfit points count) × (i ≤ count)
+Inv-loop points count i₀ i = (anyIn (unfitAt points) i count ≡ someUnfit points count) × (i ≤ count)
 
 abbrev μ-loop : tie.MeasureT-loop
 μ-loop points count i₀ i = count - i
@@ -32,7 +32,7 @@ returns c =
     let p = c .before .before .before .before in
     let g = p .before .before .args in
     let e = unfit-turn (now (g .points)) (p .loop .i) (c .before .before .point-at .ensures) (c .before .is-fit .ensures) in
-    some-leave (unfitAt (now (g .points))) (p .loop .i) (g .count) (c .before .before .before .loop-test .taken) (e ∙ c .if1 .taken) (p .loop .inv .0)
+    any-leave (unfitAt (now (g .points))) (p .loop .i) (g .count) (c .before .before .before .loop-test .taken) (e ∙ c .if1 .taken) (p .loop .inv .0)
 
 add-i : tie.Need-add-i Inv-loop μ-loop
 add-i c = search needs
@@ -45,12 +45,12 @@ loop-again c =
     let p = c .before .before .before .before in
     let g = p .before .before .args in
     let e = unfit-turn (now (g .points)) (p .loop .i) (c .before .before .point-at .ensures) (c .before .is-fit .ensures) in
-    (some-again (unfitAt (now (g .points))) (p .loop .i) (g .count) (c .before .before .before .loop-test .taken) (e ∙ c .if1 .left) (p .loop .inv .0), omega arith)
+    (any-again (unfitAt (now (g .points))) (p .loop .i) (g .count) (c .before .before .before .loop-test .taken) (e ∙ c .if1 .left) (p .loop .inv .0), omega arith)
 
 returns-2 : tie.Need-returns-2 Inv-loop μ-loop
 returns-2 c =
     let g = c .before .before .before .args in
-    some-done (unfitAt (now (g .points))) (c .before .loop .i) (g .count) (c .loop-test .left) (c .before .loop .inv .0)
+    any-done (unfitAt (now (g .points))) (c .before .loop .i) (g .count) (c .loop-test .left) (c .before .loop .inv .0)
 
 pub some-unfit-spec : {M : Type 1} → statement M
 some-unfit-spec =

@@ -1,4 +1,3 @@
--- `boxes::marching::grown` meets its contract: each way out has its tests, and what it calls its own. Assumes nothing.
 use borrow.Author.Needs.{needs}
 use Rattle.boxes.specs.Crosses.{grownOf}
 use Rattle.boxes.proofs.marching.grown.Statement.{statement}

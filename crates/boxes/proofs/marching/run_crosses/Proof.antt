@@ -1,4 +1,3 @@
--- `boxes::marching::run_crosses` meets its contract: a law for each way out, from its test. Assumes nothing.
 use mathlib.Core.Path.{_≡_, _∙_}
 use mathlib.Core.Bool.{Bool, true, false}
 use mathlib.Core.List.{List}

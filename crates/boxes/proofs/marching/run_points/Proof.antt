@@ -1,4 +1,3 @@
--- `boxes::marching::run_points` meets its contract: each way out has its tests, and what it calls its own. Assumes nothing.
 use Prim.Native.Nat.{_+_}
 use borrow.Author.Needs.{needs}
 use borrow.Author.Tests.{lt-ltb, le-ltb}

@@ -1,4 +1,3 @@
--- `boxes::marching::segment_meets_box` meets its contract: each way out has its tests, and what it calls its own. Assumes nothing.
 use mathlib.Core.Path.{sym, ap, _∙_}
 use borrow.Author.Needs.{needs}
 use Rattle.boxes.specs.Segment.{met, segmentMeetsBox}

@@ -1,10 +1,10 @@
--- `boxes::marching::some_run` meets its contract: the search goes on as the definition's does, each run as a part of the trace. Assumes nothing.
+-- The search goes on as the definition's does, each run as a part of the trace.
 use mathlib.Core.Path.{_≡_, refl, _∙_}
 use Prim.Native.Nat.{_-_, _≤_, _<_}
 use denote.Ref.{now}
-use Rattle.loops.specs.Some.{some}
-use Rattle.loops.proofs.Some.{some-again, some-leave, some-done}
-use Rattle.boxes.specs.Crosses.{firstOf, runAt, runsOf, someRun}
+use Rattle.loops.specs.Any.{anyIn}
+use Rattle.loops.proofs.Any.{any-again, any-leave, any-done}
+use Rattle.boxes.specs.Crosses.{runStart, runAt, runsOf, someRun}
 use Rattle.boxes.proofs.Turns.{run-turn, run-holds}
 use borrow.Author.Needs.{needs}
 use native.Mathlib.Omega.{arith}
@@ -12,7 +12,7 @@ use Rattle.boxes.proofs.marching.some_run.Statement.{statement}
 use Rattle.boxes.proofs.marching.some_run.Tie as tie
 
 abbrev Inv-loop : tie.InvT-loop
-Inv-loop points count b runs r₀ r = (some (runAt points count b) r (runsOf count) ≡ someRun points count b) × (r ≤ runsOf count)
+Inv-loop points count b runs r₀ r = (anyIn (runAt points count b) r (runsOf count) ≡ someRun points count b) × (r ≤ runsOf count)
 
 abbrev μ-loop : tie.MeasureT-loop
 μ-loop points count b runs r₀ r = runsOf count - r
@@ -55,7 +55,7 @@ run-crosses-requires : tie.Need-run-crosses-requires Inv-loop μ-loop
 run-crosses-requires c κs =
     let p = c .before .before .before in
     let g = p .before .before in
-    let h : firstOf (p .loop .r) < g .args .count = omega (arith, c .before .before .loop-test .taken, g .pre .0) in
+    let h : runStart (p .loop .r) < g .args .count = omega (arith, c .before .before .loop-test .taken, g .pre .0) in
     run-holds (now (g .args .points)) (g .args .count) (p .loop .r) h (g .pre .2) (c .run-points .ensures)
 
 returns : tie.Need-returns Inv-loop μ-loop
@@ -65,7 +65,7 @@ returns c =
     let l = now (g .args .points) in
     let t = c .before .before .before .before .loop-test .taken in
     let e = run-turn l (g .args .count) (g .args .b) (p .loop .r) (c .before .before .run-points .ensures) (c .before .run-crosses .ensures) in
-    some-leave (runAt l (g .args .count) (g .args .b)) (p .loop .r) (runsOf (g .args .count)) t (e ∙ c .if1 .taken) (p .loop .inv .0)
+    any-leave (runAt l (g .args .count) (g .args .b)) (p .loop .r) (runsOf (g .args .count)) t (e ∙ c .if1 .taken) (p .loop .inv .0)
 
 add-r : tie.Need-add-r Inv-loop μ-loop
 add-r c = search needs
@@ -80,12 +80,12 @@ loop-again c =
     let l = now (g .args .points) in
     let t = c .before .before .before .before .loop-test .taken in
     let e = run-turn l (g .args .count) (g .args .b) (p .loop .r) (c .before .before .run-points .ensures) (c .before .run-crosses .ensures) in
-    (some-again (runAt l (g .args .count) (g .args .b)) (p .loop .r) (runsOf (g .args .count)) t (e ∙ c .if1 .left) (p .loop .inv .0), omega (arith, t))
+    (any-again (runAt l (g .args .count) (g .args .b)) (p .loop .r) (runsOf (g .args .count)) t (e ∙ c .if1 .left) (p .loop .inv .0), omega (arith, t))
 
 returns-2 : tie.Need-returns-2 Inv-loop μ-loop
 returns-2 c =
     let g = c .before .before .before .args in
-    some-done (runAt (now (g .points)) (g .count) (g .b)) (c .before .loop .r) (runsOf (g .count)) (c .loop-test .left) (c .before .loop .inv .0)
+    any-done (runAt (now (g .points)) (g .count) (g .b)) (c .before .loop .r) (runsOf (g .count)) (c .loop-test .left) (c .before .loop .inv .0)
 
 pub some-run-spec : {M : Type 1} → statement M
 some-run-spec =

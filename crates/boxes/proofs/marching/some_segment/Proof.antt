@@ -1,9 +1,9 @@
--- `boxes::marching::some_segment` meets its contract: the search goes on as the definition's does. Assumes nothing.
+-- The search goes on as the definition's does.
 use mathlib.Core.Path.{_≡_, refl, _∙_}
 use Prim.Native.Nat.{_-_, _≤_}
 use denote.Ref.{now}
-use Rattle.loops.specs.Some.{some}
-use Rattle.loops.proofs.Some.{some-again, some-leave, some-done}
+use Rattle.loops.specs.Any.{anyIn}
+use Rattle.loops.proofs.Any.{any-again, any-leave, any-done}
 use Rattle.boxes.specs.Crosses.{segmentMeets, someSegment}
 use Rattle.boxes.proofs.Turns.{segment-turn}
 use borrow.Author.Needs.{needs}
@@ -12,7 +12,7 @@ use Rattle.boxes.proofs.marching.some_segment.Statement.{statement}
 use Rattle.boxes.proofs.marching.some_segment.Tie as tie
 
 abbrev Inv-loop : tie.InvT-loop
-Inv-loop points count b i₀ i-end i = (some (segmentMeets points b) i (count - 1) ≡ someSegment points count b) × (i ≤ count - 1)
+Inv-loop points count b i₀ i-end i = (anyIn (segmentMeets points b) i (count - 1) ≡ someSegment points count b) × (i ≤ count - 1)
 
 abbrev μ-loop : tie.MeasureT-loop
 μ-loop points count b i₀ i-end i = count - 1 - i
@@ -41,7 +41,7 @@ returns c =
     let p = c .before .before .before .before .before in
     let g = p .before .before .args in
     let e = segment-turn (now (g .points)) (g .b) (p .loop .i) (c .before .before .before .point-at .ensures) (c .before .before .point-at2 .ensures) (c .before .segment-meets-box .ensures) in
-    some-leave (segmentMeets (now (g .points)) (g .b)) (p .loop .i) (g .count - 1) (c .before .before .before .before .loop-test .taken) (e ∙ c .if1 .taken) (p .loop .inv .0)
+    any-leave (segmentMeets (now (g .points)) (g .b)) (p .loop .i) (g .count - 1) (c .before .before .before .before .loop-test .taken) (e ∙ c .if1 .taken) (p .loop .inv .0)
 
 add-i : tie.Need-add-i Inv-loop μ-loop
 add-i c = search needs
@@ -54,12 +54,12 @@ loop-again c =
     let p = c .before .before .before .before .before in
     let g = p .before .before .args in
     let e = segment-turn (now (g .points)) (g .b) (p .loop .i) (c .before .before .before .point-at .ensures) (c .before .before .point-at2 .ensures) (c .before .segment-meets-box .ensures) in
-    (some-again (segmentMeets (now (g .points)) (g .b)) (p .loop .i) (g .count - 1) (c .before .before .before .before .loop-test .taken) (e ∙ c .if1 .left) (p .loop .inv .0), omega arith)
+    (any-again (segmentMeets (now (g .points)) (g .b)) (p .loop .i) (g .count - 1) (c .before .before .before .before .loop-test .taken) (e ∙ c .if1 .left) (p .loop .inv .0), omega arith)
 
 returns-2 : tie.Need-returns-2 Inv-loop μ-loop
 returns-2 c =
     let g = c .before .before .before .args in
-    some-done (segmentMeets (now (g .points)) (g .b)) (c .before .loop .i) (g .count - 1) (c .loop-test .left) (c .before .loop .inv .0)
+    any-done (segmentMeets (now (g .points)) (g .b)) (c .before .loop .i) (g .count - 1) (c .loop-test .left) (c .before .loop .inv .0)
 
 pub some-segment-spec : {M : Type 1} → statement M
 some-segment-spec =

@@ -1,4 +1,4 @@
--- `boxes::pieces::bounding_box` meets its contract: the box grows as the definition's does. Assumes nothing.
+-- The box grows as the definition's does.
 use mathlib.Core.Path.{_≡_}
 use Prim.Native.Nat.{_-_, _≤_}
 use denote.Ref.{now}

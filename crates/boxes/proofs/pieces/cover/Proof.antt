@@ -1,4 +1,3 @@
--- `boxes::pieces::cover` meets its contract: each way out has its tests, and what it calls its own. Assumes nothing.
 use borrow.Author.Needs.{needs}
 use Rattle.boxes.specs.Bounds.{coverOf}
 use Rattle.boxes.proofs.pieces.cover.Statement.{statement}

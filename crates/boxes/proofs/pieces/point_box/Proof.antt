@@ -1,4 +1,3 @@
--- `boxes::pieces::point_box` meets its contract: each way out has its tests, and what it calls its own. Assumes nothing.
 use mathlib.Core.Path.{refl}
 use Rattle.boxes.specs.Bounds.{pointBox}
 use Rattle.boxes.proofs.pieces.point_box.Statement.{statement}

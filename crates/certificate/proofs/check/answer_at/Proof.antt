@@ -1,4 +1,4 @@
--- `certificate::check::answer_at` meets its contract: the point's refusal first, then the chord's; `read` is what the point's tests say of the numbers in the list. Assumes nothing.
+-- The point's refusal first, then the chord's; `read` is what the point's tests say of the numbers in the list.
 use mathlib.Core.Path.{_≡_}
 use denote.Ref.{now}
 use Rattle.groups.specs.Row.{pointAt}

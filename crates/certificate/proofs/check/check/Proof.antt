@@ -1,4 +1,3 @@
--- `certificate::check::check` meets its contract: each way out has its tests, and what it calls its own. Assumes nothing.
 use denote.Ref.{now}
 use borrow.Author.Needs.{needs}
 use Rattle.certificate.proofs.Passed.{refused-before, claim-lent, answered}

@@ -1,4 +1,3 @@
--- `certificate::check::chord_fits` meets its contract: each way out has its tests. Assumes nothing.
 use borrow.Author.Tests.{eq-eqb, ne-eqb}
 use Rattle.certificate.specs.Check.{chordFits}
 use borrow.Author.Needs.{needs}

@@ -1,4 +1,4 @@
--- `certificate::check::claim_answer` meets its contract: each way out has its tests; f, g, t, h are the places after A's fitness, B's, the tolerance's and the count's. Assumes nothing.
+-- Each way out has its tests; f, g, t, h are the places after A's fitness, B's, the tolerance's and the count's.
 use borrow.Author.Tests.{not-false, not-true}
 use Rattle.certificate.specs.Check.{claimAnswer}
 use borrow.Author.Needs.{needs}

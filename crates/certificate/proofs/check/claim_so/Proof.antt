@@ -1,4 +1,3 @@
--- `certificate::check::claim_so` meets its contract: each way out has its tests. Assumes nothing.
 use borrow.Author.Tests.{lt-ltb, le-ltb}
 use Rattle.certificate.specs.Check.{claimSo}
 use borrow.Author.Needs.{needs}

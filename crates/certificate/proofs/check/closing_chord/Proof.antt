@@ -1,4 +1,3 @@
--- `certificate::check::closing_chord` meets its contract: each way out has its tests. Assumes nothing.
 use borrow.Author.Tests.{eq-eqb, ne-eqb}
 use borrow.Author.Needs.{needs}
 use Rattle.certificate.proofs.check.closing_chord.Statement.{statement}

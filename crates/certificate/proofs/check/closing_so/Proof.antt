@@ -1,4 +1,3 @@
--- `certificate::check::closing_so` meets its contract: each way out has its tests. Assumes nothing.
 use borrow.Author.Tests.{eq-eqb, ne-eqb, lt-ltb, le-ltb}
 use Rattle.certificate.specs.Check.{closingSo}
 use borrow.Author.Needs.{needs}

@@ -1,4 +1,3 @@
--- `certificate::check::finite_point` meets its contract: each way out has its tests. Assumes nothing.
 use Rattle.certificate.specs.Check.{finitePoint}
 use borrow.Author.Needs.{needs}
 use Rattle.certificate.proofs.check.finite_point.Statement.{statement}

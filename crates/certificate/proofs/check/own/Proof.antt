@@ -1,4 +1,3 @@
--- `certificate::check::own` meets its contract: each way out has its tests. Assumes nothing.
 use Rattle.certificate.specs.Check.{ownOf}
 use borrow.Author.Needs.{needs}
 use Rattle.certificate.proofs.check.own.Statement.{statement}

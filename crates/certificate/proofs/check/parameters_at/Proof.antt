@@ -1,4 +1,4 @@
--- `certificate::check::parameters_at` meets its contract: each number is read at its own place. Assumes nothing.
+-- Each number is read at its own place.
 use mathlib.Core.Path.{refl}
 use borrow.Author.Needs.{needs}
 use Rattle.certificate.proofs.check.parameters_at.Statement.{statement}

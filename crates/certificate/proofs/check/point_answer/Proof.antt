@@ -1,4 +1,4 @@
--- `certificate::check::point_answer` meets its contract: each way out has its tests; n, o, e are the places of the window's, the point's and the gap's. Assumes nothing.
+-- Each way out has its tests; n, o, e are the places of the window's, the point's and the gap's.
 use borrow.Author.Tests.{not-false, not-true}
 use mathlib.Core.Path.{_≡_}
 use Rattle.patch.specs.Patch.{insideOf}

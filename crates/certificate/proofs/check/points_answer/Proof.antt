@@ -1,10 +1,10 @@
--- `certificate::check::points_answer` meets its contract: the search goes on as the definition's does. Assumes nothing.
+-- The search goes on as the definition's does.
 use mathlib.Core.Path.{_≡_, refl}
 use Prim.Native.Nat.{_-_, _≤_}
 use denote.Ref.{now}
 use Rattle.loops.specs.Loop.{on, searched}
 use Rattle.loops.proofs.Loop.{searched-again, searched-leave, searched-done}
-use Rattle.certificate.specs.Check.{pointTurn, allPassed, pointsAnswer}
+use Rattle.certificate.specs.Check.{pointBody, allPassed, pointsAnswer}
 use Rattle.certificate.proofs.Turns.{turn-out, turn-on}
 use borrow.Author.Needs.{needs}
 use native.Mathlib.Omega.{arith}
@@ -12,7 +12,7 @@ use Rattle.certificate.proofs.check.points_answer.Statement.{statement}
 use Rattle.certificate.proofs.check.points_answer.Tie as tie
 
 abbrev Inv-loop : tie.InvT-loop
-Inv-loop a b confusion points count closing i₀ i = (searched (pointTurn a b confusion points count closing) allPassed i count (on tt) ≡ pointsAnswer a b confusion points count closing) × (i ≤ count)
+Inv-loop a b confusion points count closing i₀ i = (searched (pointBody a b confusion points count closing) allPassed i count (on tt) ≡ pointsAnswer a b confusion points count closing) × (i ≤ count)
 
 abbrev μ-loop : tie.MeasureT-loop
 μ-loop a b confusion points count closing i₀ i = count - i
@@ -33,7 +33,7 @@ returns c =
     let p = r .before .before in
     let g = p .before .before .args in
     let step = turn-out (g .a) (g .b) (g .confusion) (now (g .points)) (g .count) (g .closing) (p .loop .i) (r .answer-at .ensures) (c .before .answer .given .1) in
-    searched-leave (pointTurn (g .a) (g .b) (g .confusion) (now (g .points)) (g .count) (g .closing)) allPassed (p .loop .i) (g .count) {s = tt} (r .before .loop-test .taken) step (p .loop .inv .0)
+    searched-leave (pointBody (g .a) (g .b) (g .confusion) (now (g .points)) (g .count) (g .closing)) allPassed (p .loop .i) (g .count) {s = tt} (r .before .loop-test .taken) step (p .loop .inv .0)
 
 enum-told : tie.Need-enum-told Inv-loop μ-loop
 enum-told c = search needs
@@ -50,12 +50,12 @@ loop-again c =
     let p = r .before .before in
     let g = p .before .before .args in
     let step = turn-on (g .a) (g .b) (g .confusion) (now (g .points)) (g .count) (g .closing) (p .loop .i) (r .answer-at .ensures) (c .enum-told .given .1) in
-    (searched-again (pointTurn (g .a) (g .b) (g .confusion) (now (g .points)) (g .count) (g .closing)) allPassed (p .loop .i) (g .count) (r .before .loop-test .taken) step (p .loop .inv .0), omega (arith, r .before .loop-test .taken))
+    (searched-again (pointBody (g .a) (g .b) (g .confusion) (now (g .points)) (g .count) (g .closing)) allPassed (p .loop .i) (g .count) (r .before .loop-test .taken) step (p .loop .inv .0), omega (arith, r .before .loop-test .taken))
 
 returns-2 : tie.Need-returns-2 Inv-loop μ-loop
 returns-2 c =
     let g = c .before .before .before .args in
-    searched-done (pointTurn (g .a) (g .b) (g .confusion) (now (g .points)) (g .count) (g .closing)) allPassed (c .before .loop .i) (g .count) {s = tt} (c .loop-test .left) (c .before .loop .inv .0)
+    searched-done (pointBody (g .a) (g .b) (g .confusion) (now (g .points)) (g .count) (g .closing)) allPassed (c .before .loop .i) (g .count) {s = tt} (c .loop-test .left) (c .before .loop .inv .0)
 
 pub points-answer-spec : {M : Type 1} → statement M
 points-answer-spec =

@@ -1,4 +1,3 @@
--- `certificate::check::same_point` meets its contract: each way out has its tests. Assumes nothing.
 use Rattle.certificate.specs.Check.{samePoint}
 use borrow.Author.Needs.{needs}
 use Rattle.certificate.proofs.check.same_point.Statement.{statement}

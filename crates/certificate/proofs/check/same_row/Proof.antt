@@ -1,4 +1,3 @@
--- `certificate::check::same_row` meets its contract: each way out has its tests. Assumes nothing.
 use borrow.Author.Tests.{not-false, not-true}
 use Rattle.certificate.specs.Check.{sameRow}
 use borrow.Author.Needs.{needs}

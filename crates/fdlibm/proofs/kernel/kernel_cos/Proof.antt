@@ -1,4 +1,3 @@
--- `kernel_cos` meets its contract: each way out has its tests. Assumes nothing.
 use borrow.Author.Needs.{needs}
 use borrow.Author.Tests.{lt-ltb, le-ltb}
 use Rattle.fdlibm.specs.Kernel.{kernelCos}

@@ -1,4 +1,4 @@
--- `kernel_sin` meets its contract: the angle is not tiny, and there is a tail or none. Assumes nothing.
+-- The angle is not tiny, and there is a tail or none.
 use borrow.Author.Tests.{le-ltb}
 use Rattle.fdlibm.specs.Kernel.{kernelSin}
 use Rattle.fdlibm.proofs.kernel.kernel_sin.Statement.{statement}

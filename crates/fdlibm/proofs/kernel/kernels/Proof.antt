@@ -1,4 +1,4 @@
--- `kernels` meets its contract: one test of the high word stands for that of either. Assumes nothing.
+-- One test of the high word stands for that of either.
 use borrow.Author.Needs.{needs}
 use borrow.Author.Tests.{lt-ltb}
 use Rattle.fdlibm.specs.Kernel.{kernelSin, kernelCos}

@@ -1,4 +1,4 @@
--- `quarter` meets its contract: the high word is that of a number below 1, and no shift loses a bit. Assumes nothing.
+-- The high word is that of a number below 1, and no shift loses a bit.
 use borrow.Author.Needs.{needs}
 use borrow.Author.Tests.{lt-ltb, le-ltb}
 use native.Mathlib.Omega.{arith}

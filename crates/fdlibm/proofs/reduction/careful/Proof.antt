@@ -1,4 +1,3 @@
--- `careful` meets its contract: each way out has its tests. Assumes nothing.
 use borrow.Author.Needs.{needs}
 use borrow.Author.Tests.{le-leb, lt-leb}
 use mathlib.Core.Path.{refl}
@@ -20,8 +19,8 @@ returns : tie.Need-returns
 unfolding carefulOf
 returns c = rw (← c .before .to-bits .ensures) (pick-taken _ (le-leb _ _ (c .if1 .taken)) refl)
 
-next-step-requires : tie.Need-next-step-requires
-next-step-requires c κs = search needs
+next-difference-requires : tie.Need-next-difference-requires
+next-difference-requires c κs = search needs
 
 to-bits-requires-2 : tie.Need-to-bits-requires-2
 to-bits-requires-2 c κs = search needs
@@ -34,18 +33,18 @@ unfolding carefulOf
 returns-2 c =
     let s2 = c .before in
     let i1 = s2 .before .before .before in
-    rw (← i1 .before .to-bits .ensures, ← s2 .before .before .next-step .ensures, ← s2 .to-bits2 .ensures)
+    rw (← i1 .before .to-bits .ensures, ← s2 .before .before .next-difference .ensures, ← s2 .to-bits2 .ensures)
     (pick-left _ (lt-leb _ _ (i1 .if1 .left)) (pick-taken _ (le-leb _ _ (c .if2 .taken)) refl))
 
-next-step-requires-2 : tie.Need-next-step-requires-2
-next-step-requires-2 c κs = search needs
+next-difference-requires-2 : tie.Need-next-difference-requires-2
+next-difference-requires-2 c κs = search needs
 
 returns-3 : tie.Need-returns-3
 unfolding carefulOf
 returns-3 c =
     let s2 = c .before .before in
     let i1 = s2 .before .before .before in
-    rw (c .next-step2 .ensures, ← i1 .before .to-bits .ensures, ← s2 .before .before .next-step .ensures, ← s2 .to-bits2 .ensures)
+    rw (c .next-difference2 .ensures, ← i1 .before .to-bits .ensures, ← s2 .before .before .next-difference .ensures, ← s2 .to-bits2 .ensures)
     (pick-left _ (lt-leb _ _ (i1 .if1 .left)) (pick-left _ (lt-leb _ _ (c .before .if2 .left)) refl))
 
 pub careful-spec : {M : Type 1} → statement M
@@ -55,9 +54,9 @@ careful-spec =
     to-bits-requires
     add-if1
     returns
-    next-step-requires
+    next-difference-requires
     to-bits-requires-2
     add-if2
     returns-2
-    next-step-requires-2
+    next-difference-requires-2
     returns-3)

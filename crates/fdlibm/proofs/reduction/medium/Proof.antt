@@ -1,4 +1,4 @@
--- `medium` meets its contract, call by call. Assumes nothing.
+-- Call by call.
 use borrow.Author.Needs.{needs}
 use mathlib.Core.Path.{_≡_, sym, subst}
 use Prim.Native.Nat.{ℕ, _^_, _≤_}
@@ -22,17 +22,17 @@ truncated-requires c κs = search needs
 int-to-float-n : tie.Need-int-to-float-n
 int-to-float-n c = exact _ _ (c .before .truncated .ensures)
 
-first-step-requires : tie.Need-first-step-requires
-first-step-requires c κs = search needs
+first-difference-requires : tie.Need-first-difference-requires
+first-difference-requires c κs = search needs
 
-settled-requires : tie.Need-settled-requires
-settled-requires c κs = search needs
+refined-requires : tie.Need-refined-requires
+refined-requires c κs = search needs
 
 returns : tie.Need-returns
 unfolding mediumOf
-returns c = rw (c .before .before .before .settled .ensures, c .before .before .before .before .first-step .ensures, c .before .before .before .before .before .before .truncated .ensures)
+returns c = rw (c .before .before .before .refined .ensures, c .before .before .before .before .first-difference .ensures, c .before .before .before .before .before .before .truncated .ensures)
 
 pub medium-spec : {M : Type 1} → statement M
 medium-spec =
     tie.close
-    (tie.spec truncated-requires int-to-float-n first-step-requires settled-requires returns)
+    (tie.spec truncated-requires int-to-float-n first-difference-requires refined-requires returns)

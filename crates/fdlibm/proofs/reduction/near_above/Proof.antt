@@ -1,4 +1,3 @@
--- `near_above` meets its contract: each way out has its test. Assumes nothing.
 use borrow.Author.Tests.{ne-eqb}
 use Rattle.fdlibm.specs.Reduction.{aboveOf}
 use Rattle.fdlibm.proofs.reduction.near_above.Statement.{statement}

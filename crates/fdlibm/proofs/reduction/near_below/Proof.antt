@@ -1,4 +1,3 @@
--- `near_below` meets its contract: each way out has its test. Assumes nothing.
 use borrow.Author.Tests.{ne-eqb}
 use Rattle.fdlibm.specs.Reduction.{belowOf}
 use Rattle.fdlibm.proofs.reduction.near_below.Statement.{statement}

@@ -1,4 +1,4 @@
--- `npio2_hw` meets its contract: the products' high words are the C's table, by one computed test of its 32 entries. Assumes nothing.
+-- The products' high words are the C's table, by one computed test of its 32 entries.
 use borrow.Author.Needs.{needs}
 use mathlib.Core.Path.{_≡_, refl, sym}
 use mathlib.Core.Bool.{Bool, true, false, not, false≢true}
@@ -9,8 +9,8 @@ use lib.IntN.{pos}
 use lib.ListN.{getD}
 use lib.Ieee.{binary64, inFloat, ofInt, toBits}
 use Rattle.loops.specs.Loop.{exits}
-use Rattle.loops.specs.Some.{some}
-use Rattle.loops.proofs.Some.{some-fails}
+use Rattle.loops.specs.Any.{anyIn}
+use Rattle.loops.proofs.Any.{any-fails}
 use Rattle.number.specs.Operators.{_⊗_}
 use Rattle.fdlibm.specs.Constants.{pio2-1}
 use Rattle.fdlibm.specs.Reduction.{npio2hw}
@@ -24,7 +24,7 @@ word n = toBits binary64 (ofInt binary64 (pos n) ⊗ pio2-1) / 2 ^ 32
 abbrev differs : ℕ → Bool
 differs n = not (eqb (word n) (getD npio2hw n 0))
 
-none-differs : some differs 0 32 ≡ false
+none-differs : anyIn differs 0 32 ≡ false
 unfolding computing exits
 none-differs = refl
 
@@ -33,7 +33,7 @@ holds true e = tt
 holds false e = absurd (false≢true (sym e))
 
 entry : (n : ℕ) → n < 32 → word n ≡ getD npio2hw n 0
-entry n h = eqb→eq (word n) (getD npio2hw n 0) (holds (eqb (word n) (getD npio2hw n 0)) (some-fails differs 0 32 none-differs n (omega arith) h))
+entry n h = eqb→eq (word n) (getD npio2hw n 0) (holds (eqb (word n) (getD npio2hw n 0)) (any-fails differs 0 32 none-differs n (omega arith) h))
 
 exact : (n : ℕ) → n < 32 → T (inFloat binary64 (pos n))
 unfolding inFloat

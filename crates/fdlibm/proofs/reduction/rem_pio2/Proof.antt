@@ -1,4 +1,3 @@
--- `rem_pio2` meets its contract: each way out has its tests. Assumes nothing.
 use mathlib.Core.Path.{refl, ap}
 use borrow.Author.Needs.{needs}
 use borrow.Author.Tests.{lt-ltb, le-ltb, le-leb, lt-leb, eq-eqb, ne-eqb}
@@ -23,8 +22,8 @@ abs-requires c κs = search needs
 medium-requires : tie.Need-medium-requires
 medium-requires c κs = search needs
 
-turned-back-requires : tie.Need-turned-back-requires
-turned-back-requires c κs = search needs
+negated-requires : tie.Need-negated-requires
+negated-requires c κs = search needs
 
 returns : tie.Need-returns
 unfolding remPio2
@@ -58,7 +57,7 @@ unfolding remPio2
 returns-5 c =
     let i4 = c .before .before .before .before in
     let i1 = i4 .before .before in
-    rw (c .turned-back .ensures, c .before .before .medium .ensures, c .before .before .before .abs .ensures, ← i1 .before .to-bits .ensures)
+    rw (c .negated .ensures, c .before .before .medium .ensures, c .before .before .before .abs .ensures, ← i1 .before .to-bits .ensures)
     (pick-left _ (lt-leb _ _ (i1 .if1 .left)) (pick-left _ (le-ltb _ _ (i4 .before .if2 .left))
     (pick-taken _ (le-leb _ _ (i4 .if4 .taken)) (ap To (pick-left _ (ne-eqb _ _ (c .before .if5 .left)) refl)))))
 
@@ -89,7 +88,7 @@ rem-pio2-spec =
     near-below-requires
     abs-requires
     medium-requires
-    turned-back-requires
+    negated-requires
     returns
     returns-2
     returns-3

@@ -1,4 +1,4 @@
--- `truncated` meets its contract, case by case of the exponent. Assumes nothing.
+-- Case by case of the exponent.
 use borrow.Author.Needs.{needs}
 use native.Mathlib.Omega.{arith}
 use mathlib.Core.Path.{sym, ap, subst}

@@ -1,4 +1,4 @@
--- `geomcore::call::check` meets its contract; what passing means is `check-promised`. Assumes nothing.
+-- What passing means is `check-promised`.
 use borrow.Author.Needs.{needs}
 use denote.Ref.{now}
 use Rattle.passing.proofs.Promised.{check-promised}

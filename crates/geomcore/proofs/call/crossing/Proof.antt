@@ -1,4 +1,4 @@
--- `geomcore::call::crossing` meets its contract; what yes means is `crossing-promised`. Assumes nothing.
+-- What yes means is `crossing-promised`.
 use borrow.Author.Needs.{needs}
 use denote.Ref.{now}
 use Rattle.passing.proofs.Promised.{crossing-promised}

@@ -1,4 +1,3 @@
--- `geomcore::call::point` meets its contract: it is that of the function it calls. Assumes nothing.
 use borrow.Author.Needs.{needs}
 use Rattle.geomcore.proofs.call.point.Statement.{statement}
 use Rattle.geomcore.proofs.call.point.Tie as tie

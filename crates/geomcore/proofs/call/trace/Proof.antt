@@ -1,4 +1,4 @@
--- `geomcore::call::trace` meets its contract; that its lines pass is `trace-promised`. Assumes nothing.
+-- That its lines pass is `trace-promised`.
 use borrow.Author.Needs.{needs}
 use denote.Ref.{now}
 use Rattle.passing.proofs.Promised.{trace-promised}

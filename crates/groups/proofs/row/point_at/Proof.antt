@@ -1,4 +1,3 @@
--- `groups::row::point_at` meets its contract. Assumes nothing.
 use borrow.Author.Needs.{needs}
 use Rattle.geometry.specs.Point.{pointOf}
 use Rattle.groups.proofs.row.point_at.Statement.{statement}

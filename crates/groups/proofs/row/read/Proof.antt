@@ -1,4 +1,4 @@
--- `groups::row::read` meets its contract, number by number. Assumes nothing.
+-- Number by number.
 use borrow.Author.Needs.{needs}
 use mathlib.Core.Path.{refl}
 use Rattle.groups.proofs.row.read.Statement.{statement}

@@ -1,4 +1,3 @@
--- `groups::row::row_of` meets its contract. Assumes nothing.
 use borrow.Author.Needs.{needs}
 use borrow.Author.Tests.{lt-ltb, le-ltb}
 use Rattle.groups.specs.Row.{rowOf}

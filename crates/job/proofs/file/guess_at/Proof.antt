@@ -1,4 +1,3 @@
--- `job::file::guess_at` meets its contract: each way out has its tests, and what it calls its own. Assumes nothing.
 use borrow.Author.Needs.{needs}
 use Rattle.job.specs.File.{guessAt}
 use Rattle.job.proofs.file.guess_at.Statement.{statement}

@@ -1,4 +1,3 @@
--- `job::file::has_mark` meets its contract: each way out has its tests, and what it calls its own. Assumes nothing.
 use borrow.Author.Tests.{eq-eqb, ne-eqb}
 use Rattle.job.specs.File.{marked}
 use Rattle.job.proofs.file.has_mark.Statement.{statement}

@@ -1,4 +1,3 @@
--- `job::file::job_at` meets its contract: each way out has its tests, and what it calls its own. Assumes nothing.
 use borrow.Author.Needs.{needs}
 use Rattle.job.specs.File.{jobAt}
 use Rattle.job.proofs.file.job_at.Statement.{statement}

@@ -1,4 +1,3 @@
--- `job::file::point` meets its contract: each way out has its tests, and what it calls its own. Assumes nothing.
 use borrow.Author.Needs.{needs}
 use Rattle.job.specs.File.{originAt}
 use Rattle.job.proofs.file.point.Statement.{statement}

@@ -1,4 +1,3 @@
--- `job::file::read` meets its contract: each way out has its tests, and what it calls its own. Assumes nothing.
 use borrow.Author.Needs.{needs}
 use borrow.Author.Tests.{eq-eqb, ne-eqb}
 use Rattle.job.specs.Layout.{jobBytes, following}

@@ -1,4 +1,3 @@
--- `job::file::surface_at` meets its contract: each way out has its tests, and what it calls its own. Assumes nothing.
 use borrow.Author.Needs.{needs}
 use borrow.Author.Tests.{le-ltb, lt-ltb, not-true, not-false}
 use Rattle.job.specs.File.{surfaceAt}

@@ -1,4 +1,3 @@
--- `job::file::surface_of` meets its contract: each way out has its tests, and what it calls its own. Assumes nothing.
 use borrow.Author.Tests.{eq-eqb, ne-eqb}
 use Rattle.job.specs.File.{surfaceOf}
 use Rattle.job.proofs.file.surface_of.Statement.{statement}

@@ -1,4 +1,3 @@
--- `job::file::unused_clear` meets its contract: each way out has its tests, and what it calls its own. Assumes nothing.
 use borrow.Author.Tests.{eq-eqb, ne-eqb}
 use Rattle.job.specs.File.{unusedClear}
 use Rattle.job.proofs.file.unused_clear.Statement.{statement}

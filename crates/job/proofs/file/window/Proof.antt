@@ -1,4 +1,3 @@
--- `job::file::window` meets its contract: each way out has its tests, and what it calls its own. Assumes nothing.
 use borrow.Author.Needs.{needs}
 use Rattle.job.specs.File.{windowAt}
 use Rattle.job.proofs.file.window.Statement.{statement}

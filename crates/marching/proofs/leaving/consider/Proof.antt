@@ -1,4 +1,3 @@
--- `marching::leaving::consider` meets its contract: a law for each way out, from its tests. Assumes nothing.
 use mathlib.Core.Path.{_≡_, _∙_}
 use mathlib.Core.Bool.{true, false}
 use Prim.Native.Nat.{ℕ}

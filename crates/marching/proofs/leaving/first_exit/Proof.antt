@@ -1,6 +1,5 @@
--- `marching::leaving::first_exit` meets its contract: each way out has its tests, and what it calls its own. Assumes nothing.
 use borrow.Author.Needs.{needs}
-use Rattle.marching.specs.Leaving.{firstOf}
+use Rattle.marching.specs.Leaving.{firstExit}
 use Rattle.marching.proofs.leaving.first_exit.Statement.{statement}
 use Rattle.marching.proofs.leaving.first_exit.Tie as tie
 
@@ -17,7 +16,7 @@ consider-requires-4 : tie.Need-consider-requires-4
 consider-requires-4 c κs = search needs
 
 returns : tie.Need-returns
-unfolding firstOf
+unfolding firstExit
 returns c = rw (c .consider4 .ensures, c .before .consider3 .ensures, c .before .before .consider2 .ensures, c .before .before .before .consider .ensures)
 
 pub first-exit-spec : {M : Type 1} → statement M

@@ -1,4 +1,3 @@
--- `marching::leaving::leaving` meets its contract: each way out has its tests, and what it calls its own. Assumes nothing.
 use borrow.Author.Needs.{needs}
 use Rattle.marching.specs.Leaving.{leavingOf}
 use Rattle.marching.proofs.leaving.leaving.Statement.{statement}

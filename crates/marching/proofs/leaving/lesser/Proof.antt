@@ -1,4 +1,4 @@
--- `marching::leaving::lesser` meets its contract: where there is an exit so far, the test of the two fractions tells. Assumes nothing.
+-- Where there is an exit so far, the test of the two fractions tells.
 use mathlib.Core.Path.{_≡_}
 use mathlib.Core.Bool.{true, false}
 use Prim.Native.Nat.{ℕ}

@@ -1,4 +1,3 @@
--- `marching::tangent::moderate` meets its contract: both tests, or no. Assumes nothing.
 use mathlib.Core.Path.{_≡_, sym, subst}
 use mathlib.Core.Bool.{Bool, true, false≢true}
 use lib.Dec.{T}

@@ -1,4 +1,3 @@
--- `marching::tangent::normal` meets its contract: each way out has its tests, and what it calls its own. Assumes nothing.
 use borrow.Author.Needs.{needs}
 use Rattle.marching.specs.Tangent.{normalOf}
 use Rattle.marching.proofs.tangent.normal.Statement.{statement}

@@ -1,4 +1,4 @@
--- `marching::tangent::parallel` meets its contract: the quick test of `Parallel`, or the roots. Assumes nothing.
+-- The quick test of `Parallel`, or the roots.
 use borrow.Author.Needs.{needs}
 use mathlib.Core.Path.{_≡_, sym, subst}
 use mathlib.Core.Bool.{Bool, true}

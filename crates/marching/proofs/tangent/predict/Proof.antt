@@ -1,4 +1,3 @@
--- `marching::tangent::predict` meets its contract: each way out has its tests, and what it calls its own. Assumes nothing.
 use borrow.Author.Needs.{needs}
 use Rattle.marching.specs.Tangent.{shiftOf, predictOf}
 use Rattle.marching.proofs.tangent.predict.Statement.{statement}

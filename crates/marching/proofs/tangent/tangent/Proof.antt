@@ -1,4 +1,3 @@
--- `marching::tangent::tangent` meets its contract: each way out has its tests, and what it calls its own. Assumes nothing.
 use borrow.Author.Needs.{needs}
 use Rattle.marching.specs.Tangent.{tangentOf}
 use Rattle.marching.proofs.tangent.tangent.Statement.{statement}

@@ -1,4 +1,3 @@
--- `marching::tangent::unit_cross` meets its contract: each way out has its tests, and what it calls its own. Assumes nothing.
 use borrow.Author.Needs.{needs}
 use mathlib.Core.Path.{_≡_, refl, sym}
 use Rattle.sqrt.specs.Sqrt.{sqrtOf}

@@ -1,4 +1,3 @@
--- `meeting::newton::land` meets its contract: each way out has its tests, and what it calls its own. Assumes nothing.
 use borrow.Author.Needs.{needs}
 use Rattle.meeting.specs.Newton.{landOf}
 use Rattle.meeting.proofs.newton.land.Statement.{statement}

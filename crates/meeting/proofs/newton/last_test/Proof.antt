@@ -1,4 +1,3 @@
--- `meeting::newton::last_test` meets its contract: each way out has its tests, and what it calls its own. Assumes nothing.
 use mathlib.Core.Path.{_≡_, sym, _∙_}
 use mathlib.Core.Bool.{true, false}
 use borrow.Author.Needs.{needs}

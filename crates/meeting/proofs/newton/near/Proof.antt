@@ -1,4 +1,3 @@
--- `meeting::newton::near` meets its contract: each way out has its tests, and what it calls its own. Assumes nothing.
 use mathlib.Core.Path.{_≡_, _∙_}
 use mathlib.Core.Bool.{Bool, true, false}
 use lib.Ieee.{Float}
@@ -8,7 +7,7 @@ use Rattle.number.specs.Helpers.{absOf}
 use Rattle.geometry.specs.Vector.{magnitudeOf}
 use Rattle.patch.specs.declared.patch.Patch.{Patch}
 use Rattle.patch.specs.Patch.{insideOf}
-use Rattle.meeting.specs.declared.step.Residual.{Residual}
+use Rattle.meeting.specs.declared.correction.Residual.{Residual}
 use Rattle.meeting.specs.Newton.{nearOf}
 use Rattle.meeting.proofs.newton.near.Statement.{statement}
 use Rattle.meeting.proofs.newton.near.Tie as tie

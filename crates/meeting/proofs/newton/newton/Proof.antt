@@ -1,4 +1,4 @@
--- `meeting::newton::newton` meets its contract. The loop's invariant: the rounds left give what all of them give. Assumes nothing.
+-- The loop's invariant: the rounds left give what all of them give.
 use mathlib.Core.Path.{_≡_, refl, _∙_}
 use Prim.Native.Nat.{_-_, _≤_}
 use borrow.Author.Needs.{needs}

@@ -1,4 +1,3 @@
--- `meeting::newton::newton_round` meets its contract: each way out has its tests, and what it calls its own. Assumes nothing.
 use mathlib.Core.Path.{_≡_, sym, _∙_}
 use mathlib.Core.Bool.{Bool}
 use lib.Ieee.{Float}
@@ -6,8 +5,8 @@ use borrow.Author.Needs.{needs}
 use Rattle.number.specs.Operators.{_⊗_}
 use Rattle.number.specs.Helpers.{tenth}
 use Rattle.patch.specs.declared.patch.Patch.{Patch}
-use Rattle.meeting.specs.declared.step.Residual.{Residual}
-use Rattle.meeting.specs.Newton.{nearOf, roundOf}
+use Rattle.meeting.specs.declared.correction.Residual.{Residual}
+use Rattle.meeting.specs.Newton.{nearOf, newtonRound}
 use Rattle.meeting.proofs.newton.newton_round.Statement.{statement}
 use Rattle.meeting.proofs.newton.newton_round.Tie as tie
 
@@ -19,11 +18,11 @@ near-requires : tie.Need-near-requires
 near-requires c κs = search needs
 
 returns : tie.Need-returns
-unfolding roundOf
+unfolding newtonRound
 returns c = rw (at-once _ _ _ _ (c .before .before .near .ensures) (c .before .if1 .taken))
 
-newton-step-requires : tie.Need-newton-step-requires
-newton-step-requires c κs = search needs
+newton-correction-requires : tie.Need-newton-correction-requires
+newton-correction-requires c κs = search needs
 
 enum-known-step : tie.Need-enum-known-step
 enum-known-step c = search needs
@@ -32,8 +31,8 @@ enum-told : tie.Need-enum-told
 enum-told c = search needs
 
 returns-2 : tie.Need-returns-2
-unfolding roundOf
-returns-2 c = rw (at-once _ _ _ _ (c .before .before .before .before .near .ensures) (c .before .before .before .if1 .left), ← c .before .before .newton-step .ensures, c .enum-told .given .1)
+unfolding newtonRound
+returns-2 c = rw (at-once _ _ _ _ (c .before .before .before .before .near .ensures) (c .before .before .before .if1 .left), ← c .before .before .newton-correction .ensures, c .enum-told .given .1)
 
 trials-requires : tie.Need-trials-requires
 trials-requires c κs = search needs
@@ -48,18 +47,18 @@ last-test-requires : tie.Need-last-test-requires
 last-test-requires c κs = search needs
 
 returns-3 : tie.Need-returns-3
-unfolding roundOf
+unfolding newtonRound
 returns-3 c =
     let c1 = c .before in let c3 = c1 .before .before in let c5 = c3 .before .before in let c7 = c5 .before .before in let c8 = c7 .before in
     let c9 = c8 .before in
-    rw (at-once _ _ _ _ (c9 .near .ensures) (c8 .if1 .left), ← c7 .newton-step .ensures, c5 .step .given .1, ← c3 .trials .ensures, c1 .enum-told2 .given .1, ← c .last-test .ensures)
+    rw (at-once _ _ _ _ (c9 .near .ensures) (c8 .if1 .left), ← c7 .newton-correction .ensures, c5 .step .given .1, ← c3 .trials .ensures, c1 .enum-told2 .given .1, ← c .last-test .ensures)
 
 returns-4 : tie.Need-returns-4
-unfolding roundOf
+unfolding newtonRound
 returns-4 c =
     let c1 = c .before in let c3 = c1 .before .before in let c5 = c3 .before .before in let c7 = c5 .before .before in let c8 = c7 .before in
     let c9 = c8 .before in
-    rw (at-once _ _ _ _ (c9 .near .ensures) (c8 .if1 .left), ← c7 .newton-step .ensures, c5 .step .given .1, ← c3 .trials .ensures, c1 .trial .given .1)
+    rw (at-once _ _ _ _ (c9 .near .ensures) (c8 .if1 .left), ← c7 .newton-correction .ensures, c5 .step .given .1, ← c3 .trials .ensures, c1 .trial .given .1)
 
 pub newton-round-spec : {M : Type 1} → statement M
-newton-round-spec = tie.close (tie.spec near-requires returns newton-step-requires enum-known-step enum-told returns-2 trials-requires enum-known-trial enum-told-2 last-test-requires returns-3 returns-4)
+newton-round-spec = tie.close (tie.spec near-requires returns newton-correction-requires enum-known-step enum-told returns-2 trials-requires enum-known-trial enum-told-2 last-test-requires returns-3 returns-4)

@@ -1,4 +1,4 @@
--- `meeting::newton::trials` meets its contract. The loop's invariant: the trials left give what all of them give. Assumes nothing.
+-- The loop's invariant: the trials left give what all of them give.
 use mathlib.Core.Path.{_≡_, refl}
 use Prim.Native.Nat.{_-_, _≤_}
 use borrow.Author.Needs.{needs}

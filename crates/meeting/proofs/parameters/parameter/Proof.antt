@@ -1,4 +1,3 @@
--- `meeting::parameters::parameter` meets its contract: each way out has its tests, and what it calls its own. Assumes nothing.
 use borrow.Author.Tests.{eq-eqb, ne-eqb}
 use Rattle.meeting.specs.Parameters.{parameterOf}
 use Rattle.meeting.proofs.parameters.parameter.Statement.{statement}

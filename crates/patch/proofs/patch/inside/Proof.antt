@@ -1,4 +1,3 @@
--- `patch::patch::inside` meets its contract: each way out has its tests, and what it calls its own. Assumes nothing.
 use borrow.Author.Tests.{not-true, not-false}
 use borrow.Author.Needs.{needs}
 use Rattle.loops.proofs.Choice.{and-taken, and-left}

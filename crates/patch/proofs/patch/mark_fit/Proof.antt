@@ -1,4 +1,3 @@
--- `patch::patch::mark_fit` meets its contract: each way out has its tests, and what it calls its own. Assumes nothing.
 use Rattle.patch.specs.Patch.{markFit}
 use Rattle.patch.proofs.patch.mark_fit.Statement.{statement}
 use Rattle.patch.proofs.patch.mark_fit.Tie as tie

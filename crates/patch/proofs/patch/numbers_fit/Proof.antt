@@ -1,4 +1,3 @@
--- `patch::patch::numbers_fit` meets its contract: each way out has its tests, and what it calls its own. Assumes nothing.
 use borrow.Author.Needs.{needs}
 use Rattle.patch.specs.Patch.{numbersFit}
 use Rattle.patch.proofs.patch.numbers_fit.Statement.{statement}

@@ -1,4 +1,3 @@
--- `patch::patch::sizes_fit` meets its contract: each way out has its tests, and what it calls its own. Assumes nothing.
 use borrow.Author.Needs.{needs}
 use Rattle.patch.specs.Patch.{sizesFit}
 use Rattle.patch.proofs.patch.sizes_fit.Statement.{statement}

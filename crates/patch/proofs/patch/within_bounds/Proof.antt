@@ -1,4 +1,3 @@
--- `patch::patch::within_bounds` meets its contract: each way out has its tests, and what it calls its own. Assumes nothing.
 use borrow.Author.Needs.{needs}
 use Rattle.patch.specs.Patch.{withinBounds}
 use Rattle.patch.proofs.patch.within_bounds.Statement.{statement}

@@ -1,4 +1,3 @@
--- `patch::point::point` meets its contract: each way out has its tests, and what it calls its own. Assumes nothing.
 use mathlib.Core.Path.{refl, sym, ap, _∙_}
 use borrow.Author.Tests.{not-false, not-true}
 use borrow.Author.Needs.{needs}

@@ -1,4 +1,3 @@
--- `probe_call::point` meets its contract: each way out has its tests, and what it calls its own. Assumes nothing.
 use borrow.Author.Needs.{needs}
 use Rattle.probe.specs.Call.{pointFrom}
 use Rattle.probe.proofs.call.point.Statement.{statement}

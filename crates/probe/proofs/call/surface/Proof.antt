@@ -1,4 +1,3 @@
--- `probe_call::surface` meets its contract: each way out has its tests, and what it calls its own. Assumes nothing.
 use Rattle.probe.specs.Call.{surfaceFrom}
 use Rattle.probe.proofs.call.surface.Statement.{statement}
 use Rattle.probe.proofs.call.surface.Tie as tie

@@ -1,4 +1,3 @@
--- `probe_call::vector` meets its contract: each way out has its tests, and what it calls its own. Assumes nothing.
 use borrow.Author.Needs.{needs}
 use Rattle.probe.specs.Call.{vectorFrom}
 use Rattle.probe.proofs.call.vector.Statement.{statement}

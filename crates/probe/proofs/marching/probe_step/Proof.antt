@@ -1,4 +1,4 @@
--- `probe_marching::probe_step` meets its contract: each step has its function. Assumes nothing.
+-- Each step has its function.
 use borrow.Author.Tests.{eq-eqb, ne-eqb}
 use borrow.Author.Needs.{needs}
 use Rattle.probe.specs.Marching.{probeStep}

@@ -1,4 +1,3 @@
--- `probe_surface::patch_of` meets its contract: each way out has its tests, and what it calls its own. Assumes nothing.
 use borrow.Author.Needs.{needs}
 use Rattle.probe.specs.Surface.{patchFrom}
 use Rattle.probe.proofs.surface.patch_of.Statement.{statement}

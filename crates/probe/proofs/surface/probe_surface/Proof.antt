@@ -1,4 +1,3 @@
--- `probe_surface::probe_surface` meets its contract: each thing asked has its function. Assumes nothing.
 use borrow.Author.Tests.{eq-eqb, ne-eqb}
 use borrow.Author.Needs.{needs}
 use Rattle.probe.specs.Surface.{probeSurface}

@@ -1,4 +1,3 @@
--- `probe_surface::put` meets its contract: each way out has its tests, and what it calls its own. Assumes nothing.
 use mathlib.Core.Path.{refl}
 use lib.ListN.{length-set}
 use borrow.Author.Needs.{needs}

@@ -1,4 +1,3 @@
--- `probe_surface::surface` meets its contract: each way out has its tests, and what it calls its own. Assumes nothing.
 use borrow.Author.Tests.{eq-eqb, ne-eqb}
 use borrow.Author.Needs.{needs}
 use Rattle.job.specs.File.{surfaceOf}

@@ -1,4 +1,3 @@
--- `refusal::Refusal::index` meets its contract: each way out has its tests, and what it calls its own. Assumes nothing.
 use borrow.Author.Needs.{needs}
 use Rattle.refusal.proofs.Refusal.index.Statement.{statement}
 use Rattle.refusal.proofs.Refusal.index.Tie as tie

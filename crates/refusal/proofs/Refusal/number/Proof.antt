@@ -1,4 +1,3 @@
--- `refusal::Refusal::number` meets its contract: each way out has its tests, and what it calls its own. Assumes nothing.
 use borrow.Author.Needs.{needs}
 use Rattle.refusal.proofs.Refusal.number.Statement.{statement}
 use Rattle.refusal.proofs.Refusal.number.Tie as tie

@@ -1,4 +1,3 @@
--- `cramer::cramer` meets its contract, operation by operation. Assumes nothing.
 use borrow.Author.Needs.{needs}
 use mathlib.Core.Path.{refl}
 use Rattle.solve.proofs.cramer.cramer.Statement.{statement}

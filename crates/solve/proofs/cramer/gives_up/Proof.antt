@@ -1,4 +1,4 @@
--- `cramer::gives_up` meets its contract: the magnitude and the maximum are the definition's. Assumes nothing.
+-- The magnitude and the maximum are the definition's.
 use borrow.Author.Needs.{needs}
 use Rattle.solve.proofs.cramer.gives_up.Statement.{statement}
 use Rattle.solve.proofs.cramer.gives_up.Tie as tie

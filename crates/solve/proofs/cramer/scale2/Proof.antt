@@ -1,4 +1,4 @@
--- `cramer::scale2` meets its contract: the four magnitudes are the definition's. Assumes nothing.
+-- The four magnitudes are the definition's.
 use borrow.Author.Needs.{needs}
 use Rattle.solve.proofs.cramer.scale2.Statement.{statement}
 use Rattle.solve.proofs.cramer.scale2.Tie as tie

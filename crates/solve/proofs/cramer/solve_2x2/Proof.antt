@@ -1,4 +1,3 @@
--- `cramer::solve_2x2` meets its contract: each way out has its test. Assumes nothing.
 use mathlib.Core.Path.{ap, _∙_}
 use borrow.Author.Needs.{needs}
 use Rattle.solve.specs.declared.cramer.Solved2.the-variants.{Solution}

@@ -1,4 +1,3 @@
--- `stride::attempt::attempt` meets its contract: each way out has its tests, and what it calls its own. Assumes nothing.
 use mathlib.Core.Path.{_≡_}
 use borrow.Author.Needs.{needs}
 use Rattle.step.specs.Attempt.{predicted, attemptOf}

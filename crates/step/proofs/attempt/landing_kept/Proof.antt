@@ -1,4 +1,3 @@
--- `stride::attempt::landing_kept` meets its contract: each way out has its tests, and what it calls its own. Assumes nothing.
 use mathlib.Core.Path.{_≡_}
 use mathlib.Core.Bool.{Bool}
 use lib.Ieee.{Float}

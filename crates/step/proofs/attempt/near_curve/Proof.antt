@@ -1,4 +1,3 @@
--- `stride::attempt::near_curve` meets its contract. Assumes nothing.
 use mathlib.Core.Path.{refl}
 use Rattle.step.specs.Attempt.{nearCurve}
 use Rattle.step.proofs.attempt.near_curve.Statement.{statement}

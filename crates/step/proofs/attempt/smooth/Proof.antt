@@ -1,4 +1,3 @@
--- `stride::attempt::smooth` meets its contract. Assumes nothing.
 use borrow.Author.Needs.{needs}
 use Rattle.step.specs.Attempt.{smoothOf}
 use Rattle.step.proofs.attempt.smooth.Statement.{statement}

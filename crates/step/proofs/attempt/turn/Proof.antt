@@ -1,4 +1,3 @@
--- `stride::attempt::turn` meets its contract: each way out has its tests, and what it calls its own. Assumes nothing.
 use borrow.Author.Needs.{needs}
 use Rattle.step.specs.Attempt.{turnOf}
 use Rattle.step.proofs.attempt.turn.Statement.{statement}

@@ -1,4 +1,3 @@
--- `step::closing::along` meets its contract. Assumes nothing.
 use borrow.Author.Needs.{needs}
 use Rattle.step.specs.Closing.{alongOf}
 use Rattle.step.proofs.closing.along.Statement.{statement}

@@ -1,4 +1,3 @@
--- `step::closing::first_stride` meets its contract. Assumes nothing.
 use borrow.Author.Needs.{needs}
 use Rattle.step.specs.Closing.{firstStride}
 use Rattle.step.proofs.closing.first_stride.Statement.{statement}

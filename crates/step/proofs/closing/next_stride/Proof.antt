@@ -1,4 +1,4 @@
--- `step::closing::next_stride` meets its contract: a root that is not at most the length leaves it. Assumes nothing.
+-- A root that is not at most the length leaves it.
 use borrow.Author.Needs.{needs}
 use mathlib.Core.Path.{_≡_, refl, sym, subst, _∙_}
 use mathlib.Core.Bool.{Bool, true, false, not, cond}

@@ -1,4 +1,4 @@
--- `stride::shorten::halving` meets its contract. The invariant is `Halved`; the measure is the stride in units of 2 ^ -1074. Assumes nothing.
+-- The invariant is `Halved`; the measure is the stride in units of 2 ^ -1074.
 use mathlib.Core.Path.{sym, ap, subst}
 use borrow.Author.Needs.{needs}
 use lib.Dec.{T}

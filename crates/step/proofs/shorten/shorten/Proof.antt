@@ -1,4 +1,3 @@
--- `stride::shorten::shorten` meets its contract: each way out has its tests, and what it calls its own. Assumes nothing.
 use mathlib.Core.Path.{_∙_, sym, subst}
 use borrow.Author.Needs.{needs}
 use lib.Dec.{T}

@@ -1,4 +1,3 @@
--- `step::step::came_round` meets its contract. Assumes nothing.
 use borrow.Author.Needs.{needs}
 use borrow.Author.Tests.{le-leb, lt-leb}
 use Rattle.step.specs.Step.{cameRound}

@@ -1,4 +1,3 @@
--- `step::step::edge_step` meets its contract. Assumes nothing.
 use mathlib.Core.Path.{_≡_}
 use mathlib.Core.Bool.{true, false}
 use lib.Ieee.{Float}

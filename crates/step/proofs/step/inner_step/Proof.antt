@@ -1,4 +1,3 @@
--- `step::step::inner_step` meets its contract. Assumes nothing.
 use borrow.Author.Needs.{needs}
 use Rattle.step.specs.Step.{innerStep}
 use Rattle.step.proofs.step.inner_step.Statement.{statement}

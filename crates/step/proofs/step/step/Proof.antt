@@ -1,4 +1,3 @@
--- `step::step::step` meets its contract. Assumes nothing.
 use borrow.Author.Needs.{needs}
 use Rattle.step.specs.Step.{stepOf}
 use Rattle.step.proofs.step.step.Statement.{statement}

@@ -1,4 +1,3 @@
--- `walk::half::first_walker` meets its contract. Assumes nothing.
 use borrow.Author.Needs.{needs}
 use Rattle.walk.specs.Half.{firstWalker}
 use Rattle.walk.proofs.half.first_walker.Statement.{statement}

@@ -1,4 +1,4 @@
--- `walk::half::half` meets its contract. The invariant is `Going`: the buffer holds the points so far, in the order walked. Assumes nothing.
+-- The invariant is `Going`: the buffer holds the points so far, in the order walked.
 use mathlib.Core.Path.{refl, ap, _∙_}
 use Prim.Native.Nat.{_-_, _*_}
 use native.Mathlib.Omega.{arith}

@@ -1,4 +1,3 @@
--- `walk::half::left_of` meets its contract. Assumes nothing.
 use borrow.Author.Needs.{needs}
 use Rattle.walk.proofs.half.left_of.Statement.{statement}
 use Rattle.walk.proofs.half.left_of.Tie as tie

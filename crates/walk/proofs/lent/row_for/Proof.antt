@@ -1,4 +1,4 @@
--- `walk::lent::row_for` meets its contract: the two sides are one struct. Assumes nothing.
+-- The two sides are one struct.
 use mathlib.Core.Path.{refl}
 use Rattle.walk.proofs.lent.row_for.Statement.{statement}
 use Rattle.walk.proofs.lent.row_for.Tie as tie

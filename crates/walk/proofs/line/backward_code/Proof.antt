@@ -1,4 +1,3 @@
--- `walk::line::backward_code` meets its contract. Assumes nothing.
 use Rattle.walk.proofs.line.backward_code.Statement.{statement}
 use Rattle.walk.proofs.line.backward_code.Tie as tie
 

@@ -1,4 +1,3 @@
--- `walk::line::join` meets its contract. Assumes nothing.
 use mathlib.Core.Path.{sym}
 use native.Mathlib.Omega.{arith}
 use borrow.Author.Needs.{needs}
@@ -19,32 +18,32 @@ mul-used c = search needs
 mul-from : tie.Need-mul-from
 mul-from c = search needs
 
-slice-relend-prefix-turn : tie.Need-slice-relend-prefix-turn
-slice-relend-prefix-turn c = search needs
+slice-relend-prefix-reverse : tie.Need-slice-relend-prefix-reverse
+slice-relend-prefix-reverse c = search needs
 
-slice-aggregate-turn : tie.Need-slice-aggregate-turn
-slice-aggregate-turn c = sym (joined-first _ _ _ (c .before .before .pre .0))
+slice-aggregate-reverse : tie.Need-slice-aggregate-reverse
+slice-aggregate-reverse c = sym (joined-first _ _ _ (c .before .before .pre .0))
 
-turn-requires : tie.Need-turn-requires
-turn-requires c κs = (joined-first _ _ _ (c .before .before .pre .0), omega (arith, c .before .before .pre .1))
+reverse-requires : tie.Need-reverse-requires
+reverse-requires c κs = (joined-first _ _ _ (c .before .before .pre .0), omega (arith, c .before .before .pre .1))
 
-mul-turn : tie.Need-mul-turn
-mul-turn c = search needs
+mul-reverse : tie.Need-mul-reverse
+mul-reverse c = search needs
 
-sub-turn : tie.Need-sub-turn
-sub-turn c = search needs
+sub-reverse : tie.Need-sub-reverse
+sub-reverse c = search needs
 
-part-turn-start : tie.Need-part-turn-start
-part-turn-start c = search needs
+part-reverse-start : tie.Need-part-reverse-start
+part-reverse-start c = search needs
 
-part-turn-end : tie.Need-part-turn-end
-part-turn-end c = search needs
+part-reverse-end : tie.Need-part-reverse-end
+part-reverse-end c = search needs
 
-add-turn : tie.Need-add-turn
-add-turn c = search needs
+add-reverse : tie.Need-add-reverse
+add-reverse c = search needs
 
-turn-requires-2 : tie.Need-turn-requires-2
-turn-requires-2 c κs = search needs
+reverse-requires-2 : tie.Need-reverse-requires-2
+reverse-requires-2 c κs = search needs
 
 same-length : tie.Need-same-length
 same-length c = search needs
@@ -52,7 +51,7 @@ same-length c = search needs
 returns : tie.Need-returns
 returns c =
     let st = c .before .before .before .before .before .before .before .before .before in
-    joined (st .args .forward) (st .args .backward) (now (st .args .points)) (st .pre .0) (c .before .before .before .before .before .before .turn .ensures) (c .before .before .turn2 .ensures)
+    joined (st .args .forward) (st .args .backward) (now (st .args .points)) (st .pre .0) (c .before .before .before .before .before .before .reverse .ensures) (c .before .before .reverse2 .ensures)
 
 pub join-spec : {M : Type 1} → statement M
 join-spec =
@@ -62,14 +61,14 @@ join-spec =
     add-count-2
     mul-used
     mul-from
-    slice-relend-prefix-turn
-    slice-aggregate-turn
-    turn-requires
-    mul-turn
-    sub-turn
-    part-turn-start
-    part-turn-end
-    add-turn
-    turn-requires-2
+    slice-relend-prefix-reverse
+    slice-aggregate-reverse
+    reverse-requires
+    mul-reverse
+    sub-reverse
+    part-reverse-start
+    part-reverse-end
+    add-reverse
+    reverse-requires-2
     same-length
     returns)

@@ -1,4 +1,4 @@
--- `walk::line::line` meets its contract: the start, the forward half behind it, the backward half behind that, then joined. Assumes nothing.
+-- The start, the forward half behind it, the backward half behind that, then joined.
 use mathlib.Core.Path.{sym, ap, _∙_}
 use mathlib.Core.Bool.{Bool}
 use Prim.Native.Nat.{_≤_}

@@ -1,4 +1,3 @@
--- `walk::trace::call_fitness` meets its contract. Assumes nothing.
 use borrow.Author.Needs.{needs}
 use Rattle.walk.specs.Trace.{callFitness}
 use Rattle.walk.proofs.trace.call_fitness.Statement.{statement}

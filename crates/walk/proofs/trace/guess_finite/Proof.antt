@@ -1,4 +1,3 @@
--- `walk::trace::guess_finite` meets its contract. Assumes nothing.
 use borrow.Author.Needs.{needs}
 use Rattle.walk.specs.Trace.{guessFinite}
 use Rattle.walk.proofs.trace.guess_finite.Statement.{statement}

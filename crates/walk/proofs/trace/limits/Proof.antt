@@ -1,4 +1,3 @@
--- `walk::trace::limits` meets its contract: a law for each way out, from its tests. Assumes nothing.
 use mathlib.Core.Path.{_≡_, sym, _∙_}
 use mathlib.Core.Bool.{true, false}
 use mathlib.Core.List.{List}

@@ -1,4 +1,3 @@
--- `walk::trace::trace` meets its contract. Assumes nothing.
 use mathlib.Core.Path.{sym, ap, _∙_}
 use mathlib.Core.List.{List, _++_}
 use native.Mathlib.Omega.{arith}
@@ -39,20 +38,20 @@ mul-room-2 c =
     let k = f .3 in
     search needs
 
-slice-relend-prefix-walked : tie.Need-slice-relend-prefix-walked
-slice-relend-prefix-walked c =
+slice-relend-prefix-walk-from : tie.Need-slice-relend-prefix-walk-from
+slice-relend-prefix-walk-from c =
     let f = call-fit (c .before .before .before .before .before .args .a) (c .before .before .before .before .before .args .b) (c .before .before .before .before .before .args .tol) (c .before .before .before .before .before .args .guess) (c .before .before .before .before .before .args .cap) (now (c .before .before .before .before .before .args .buffer)) (_∙_ (sym (c .before .before .call-fitness .ensures)) (c .enum-told .given .1)) in
     let k = f .4 in
     let m = f .3 in
     search needs
 
-slice-aggregate-walked : tie.Need-slice-aggregate-walked
-slice-aggregate-walked c =
+slice-aggregate-walk-from : tie.Need-slice-aggregate-walk-from
+slice-aggregate-walk-from c =
     let f = call-fit (c .before .before .before .before .before .before .args .a) (c .before .before .before .before .before .before .args .b) (c .before .before .before .before .before .before .args .tol) (c .before .before .before .before .before .before .args .guess) (c .before .before .before .before .before .before .args .cap) (now (c .before .before .before .before .before .before .args .buffer)) (_∙_ (sym (c .before .before .before .call-fitness .ensures)) (c .before .enum-told .given .1)) in
     sym (length-take-le _ _ (omega (arith, f .4)))
 
-walked-requires : tie.Need-walked-requires
-walked-requires c κs =
+walk-from-requires : tie.Need-walk-from-requires
+walk-from-requires c κs =
     let f = call-fit (c .before .before .before .before .before .before .args .a) (c .before .before .before .before .before .before .args .b) (c .before .before .before .before .before .before .args .tol) (c .before .before .before .before .before .before .args .guess) (c .before .before .before .before .before .before .args .cap) (now (c .before .before .before .before .before .before .args .buffer)) (_∙_ (sym (c .before .before .before .call-fitness .ensures)) (c .before .enum-told .given .1)) in
     (f .3, length-take-le _ _ (omega (arith, f .4)))
 
@@ -69,7 +68,7 @@ same-length-2 c = search needs
 returns-2 : tie.Need-returns-2
 unfolding traceOf
 returns-2 c =
-    (rw (← c .before .before .before .before .before .before .call-fitness .ensures, c .before .before .before .before .enum-told .given .1) (c .before .before .walked .ensures .0), rw (← c .before .before .before .before .before .before .call-fitness .ensures, c .before .before .before .before .enum-told .given .1) (ap (λ (l : List Float). l ++ drop (room (c .before .before .before .before .before .before .before .before .before .args .cap)) (now (c .before .before .before .before .before .before .before .before .before .args .buffer))) (c .before .before .walked .ensures .1)))
+    (rw (← c .before .before .before .before .before .before .call-fitness .ensures, c .before .before .before .before .enum-told .given .1) (c .before .before .walk_from .ensures .0), rw (← c .before .before .before .before .before .before .call-fitness .ensures, c .before .before .before .before .enum-told .given .1) (ap (λ (l : List Float). l ++ drop (room (c .before .before .before .before .before .before .before .before .before .args .cap)) (now (c .before .before .before .before .before .before .before .before .before .args .buffer))) (c .before .before .walk_from .ensures .1)))
 
 pub trace-spec : {M : Type 1} → statement M
 trace-spec =
@@ -81,9 +80,9 @@ trace-spec =
     mul-room
     add-room
     mul-room-2
-    slice-relend-prefix-walked
-    slice-aggregate-walked
-    walked-requires
+    slice-relend-prefix-walk-from
+    slice-aggregate-walk-from
+    walk-from-requires
     same-length
     returns
     same-length-2

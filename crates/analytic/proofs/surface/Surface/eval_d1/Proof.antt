@@ -1,4 +1,3 @@
--- `analytic::surface::Surface::eval_d1` meets its contract: each way out has its tests, and what it calls its own. Assumes nothing.
 use borrow.Author.Needs.{needs}
 use Rattle.analytic.specs.Surface.{evalD1}
 use Rattle.analytic.proofs.surface.Surface.eval_d1.Statement.{statement}

@@ -1,4 +1,3 @@
--- `analytic::surface::Surface::eval_point` meets its contract: each way out has its tests, and what it calls its own. Assumes nothing.
 use borrow.Author.Needs.{needs}
 use Rattle.analytic.specs.Surface.{evalPoint}
 use Rattle.analytic.proofs.surface.Surface.eval_point.Statement.{statement}

@@ -1,4 +1,3 @@
--- `geometry::frame::Frame3D::point_at` meets its contract, by those of what it calls. Assumes nothing.
 use borrow.Author.Needs.{needs}
 use Rattle.geometry.specs.Frame.{pointAtOf}
 use Rattle.geometry.proofs.frame.Frame3D.point_at.Statement.{statement}

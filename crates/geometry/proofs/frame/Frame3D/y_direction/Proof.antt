@@ -1,4 +1,3 @@
--- `geometry::frame::Frame3D::y_direction` meets its contract. Assumes nothing.
 use mathlib.Core.Path.{refl}
 use Rattle.geometry.proofs.frame.Frame3D.y_direction.Statement.{statement}
 use Rattle.geometry.proofs.frame.Frame3D.y_direction.Tie as tie

@@ -1,4 +1,3 @@
--- `geometry::point::Point3D::add` meets its contract. Assumes nothing.
 use mathlib.Core.Path.{refl}
 use Rattle.geometry.specs.Point.{addVectorOf}
 use Rattle.geometry.proofs.point.Point3D.add.Statement.{statement}

@@ -1,4 +1,3 @@
--- `geometry::point::Point3D::distance` meets its contract, by those of what it calls. Assumes nothing.
 use borrow.Author.Needs.{needs}
 use Rattle.geometry.specs.Point.{distanceOf}
 use Rattle.geometry.proofs.point.Point3D.distance.Statement.{statement}

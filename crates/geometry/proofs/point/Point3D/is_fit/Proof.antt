@@ -1,4 +1,3 @@
--- `geometry::point::Point3D::is_fit` meets its contract: each way out has its tests, and what it calls its own. Assumes nothing.
 use borrow.Author.Needs.{needs}
 use Rattle.loops.proofs.Choice.{and-taken, and-left}
 use Rattle.geometry.specs.Point.{pointFit}

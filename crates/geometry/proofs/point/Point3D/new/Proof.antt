@@ -1,4 +1,3 @@
--- `geometry::point::Point3D::new` meets its contract. Assumes nothing.
 use mathlib.Core.Path.{refl}
 use Rattle.geometry.specs.Point.{pointOf}
 use Rattle.geometry.proofs.point.Point3D.new.Statement.{statement}

@@ -1,11 +1,10 @@
--- `geometry::point::Point3D::sub` meets its contract. Assumes nothing.
 use mathlib.Core.Path.{refl}
-use Rattle.geometry.specs.Point.{fromOf}
+use Rattle.geometry.specs.Point.{differenceOf}
 use Rattle.geometry.proofs.point.Point3D.sub.Statement.{statement}
 use Rattle.geometry.proofs.point.Point3D.sub.Tie as tie
 
 returns : tie.Need-returns
-unfolding fromOf
+unfolding differenceOf
 returns c = refl
 
 pub sub-spec : {M : Type 1} → statement M

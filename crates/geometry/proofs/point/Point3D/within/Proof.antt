@@ -1,6 +1,5 @@
--- `geometry::point::Point3D::within` meets its contract, by those of what it calls. Assumes nothing.
 use borrow.Author.Needs.{needs}
-use Rattle.geometry.specs.Point.{distanceOf, fromOf}
+use Rattle.geometry.specs.Point.{distanceOf, differenceOf}
 use Rattle.geometry.specs.Vector.{magnitudeOf, squareMagnitudeOf}
 use Rattle.geometry.proofs.point.Point3D.within.Statement.{statement}
 use Rattle.geometry.proofs.point.Point3D.within.Tie as tie
@@ -12,7 +11,7 @@ magnitude-at-most-requires : tie.Need-magnitude-at-most-requires
 magnitude-at-most-requires c κs = search needs
 
 returns : tie.Need-returns
-unfolding distanceOf magnitudeOf squareMagnitudeOf fromOf
+unfolding distanceOf magnitudeOf squareMagnitudeOf differenceOf
 returns c = rw (c .magnitude-at-most .ensures, c .before .sub .ensures)
 
 pub within-spec : {M : Type 1} → statement M

@@ -1,4 +1,3 @@
--- `tolerance::Tolerance::is_fit` meets its contract: each way out has its tests. Assumes nothing.
 use mathlib.Core.Path.{_≡_}
 use mathlib.Core.Bool.{true, false}
 use Rattle.number.specs.Operators.{bits, _≤?_}

@@ -1,4 +1,3 @@
--- `tolerance::Tolerance::standard` meets its contract. Assumes nothing.
 use mathlib.Core.Path.{refl}
 use Rattle.geometry.specs.Tolerance.{defaultTolerance}
 use Rattle.geometry.proofs.tolerance.Tolerance.standard.Statement.{statement}

@@ -1,4 +1,3 @@
--- `vector::Vector3D::cross` meets its contract. Assumes nothing.
 use mathlib.Core.Path.{refl}
 use Rattle.geometry.specs.Vector.{crossOf}
 use Rattle.geometry.proofs.vector.Vector3D.cross.Statement.{statement}

@@ -1,4 +1,3 @@
--- `vector::Vector3D::dot` meets its contract. Assumes nothing.
 use mathlib.Core.Path.{refl}
 use Rattle.geometry.specs.Vector.{dotOf}
 use Rattle.geometry.proofs.vector.Vector3D.dot.Statement.{statement}

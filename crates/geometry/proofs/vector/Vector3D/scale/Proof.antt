@@ -1,4 +1,3 @@
--- `vector::Vector3D::scale` meets its contract. Assumes nothing.
 use mathlib.Core.Path.{refl}
 use Rattle.geometry.specs.Vector.{scaleOf}
 use Rattle.geometry.proofs.vector.Vector3D.scale.Statement.{statement}

@@ -1,4 +1,3 @@
--- `vector::Vector3D::square_magnitude` meets its contract. Assumes nothing.
 use mathlib.Core.Path.{refl}
 use Rattle.geometry.specs.Vector.{squareMagnitudeOf}
 use Rattle.geometry.proofs.vector.Vector3D.square_magnitude.Statement.{statement}

@@ -1,4 +1,3 @@
--- `patch::patch::Patch::fitness` meets its contract: each way out has its tests, and what it calls its own. Assumes nothing.
 use borrow.Author.Tests.{not-false, not-true}
 use borrow.Author.Needs.{needs}
 use Rattle.patch.specs.Patch.{fitnessOf}

@@ -1,4 +1,3 @@
--- `patch::patch::Window::bounded` meets its contract: each way out has its tests, and what it calls its own. Assumes nothing.
 use mathlib.Core.Path.{refl}
 use borrow.Author.Needs.{needs}
 use Rattle.loops.proofs.Choice.{pick-taken, pick-left}

@@ -1,4 +1,3 @@
--- `patch::patch::Window::is_fit` meets its contract: each way out has its tests, and what it calls its own. Assumes nothing.
 use mathlib.Core.Path.{refl}
 use Rattle.patch.specs.Patch.{windowFit}
 use Rattle.patch.proofs.patch.Window.is_fit.Statement.{statement}

@@ -1,0 +1,45 @@
+use borrow.Author.Needs.{needs}
+use Rattle.meeting.specs.Correction.{freeCorrection}
+use Rattle.meeting.proofs.correction.free_correction.Statement.{statement}
+use Rattle.meeting.proofs.correction.free_correction.Tie as tie
+
+normal-matrix-requires : tie.Need-normal-matrix-requires
+normal-matrix-requires c κs = search needs
+
+solve-3x3-requires : tie.Need-solve-3x3-requires
+solve-3x3-requires c κs = search needs
+
+enum-told : tie.Need-enum-told
+enum-told c = search needs
+
+enum-known-solved : tie.Need-enum-known-solved
+enum-known-solved c = search needs
+
+new-requires : tie.Need-new-requires
+new-requires c κs = search needs
+
+dot-requires : tie.Need-dot-requires
+dot-requires c κs = search needs
+
+dot-requires-2 : tie.Need-dot-requires-2
+dot-requires-2 c κs = search needs
+
+dot-requires-3 : tie.Need-dot-requires-3
+dot-requires-3 c κs = search needs
+
+dot-requires-4 : tie.Need-dot-requires-4
+dot-requires-4 c κs = search needs
+
+returns : tie.Need-returns
+unfolding freeCorrection
+returns c = rw (← c .before .before .before .before .before .before .normal-matrix .ensures, ← c .before .before .solve-3x3 .ensures, c .enum-told .given .1)
+
+returns-2 : tie.Need-returns-2
+unfolding freeCorrection
+returns-2 c =
+    let c1 = c .before in let c2 = c1 .before in let c3 = c2 .before in let c8 = c3 .before .before .before .before .before in
+    let c10 = c8 .before .before in let c12 = c10 .before .before in let c16 = c12 .before .before .before .before in
+    rw (c .dot4 .ensures, c1 .dot3 .ensures, c2 .dot2 .ensures, c3 .dot .ensures, c8 .new .ensures, ← c16 .normal-matrix .ensures, ← c12 .solve-3x3 .ensures, c10 .solved .given .1)
+
+pub free-correction-spec : {M : Type 1} → statement M
+free-correction-spec = tie.close (tie.spec normal-matrix-requires solve-3x3-requires enum-told enum-known-solved new-requires dot-requires dot-requires-2 dot-requires-3 dot-requires-4 returns returns-2)

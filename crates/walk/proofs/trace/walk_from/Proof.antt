@@ -1,0 +1,124 @@
+-- A law for each way out, from what the meeting and the tangent say.
+use mathlib.Core.Path.{_≡_, sym, ap, _∙_}
+use Prim.Native.Nat.{ℕ}
+use borrow.Author.Needs.{needs}
+use denote.Ref.{now}
+use lib.ListN.{replicate}
+use Rattle.number.specs.Helpers.{positiveZero}
+use Rattle.refusal.specs.declared.Refusal.the-variants as refusal
+use Rattle.geometry.specs.declared.vector.Vector3D.{Vector3D}
+use Rattle.geometry.specs.declared.tolerance.Tolerance.{Tolerance}
+use Rattle.patch.specs.declared.patch.Patch.{Patch}
+use Rattle.patch.specs.declared.patch.Parameters.{Parameters}
+use Rattle.meeting.specs.declared.newton.Met.the-variants as met
+use Rattle.meeting.specs.Newton.{meetOf}
+use Rattle.marching.specs.declared.tangent.Direction.the-variants as direction
+use Rattle.marching.specs.Tangent.{tangentOf}
+use Rattle.walk.specs.Line.{lineOf}
+use Rattle.walk.specs.Trace.{Outcome, refusedWalk, settled, walkOf}
+use Rattle.walk.proofs.Lines.{cleared}
+use Rattle.walk.proofs.trace.walk_from.Statement.{statement}
+use Rattle.walk.proofs.trace.walk_from.Tie as tie
+
+module _ (a b : Patch) (tol : Tolerance) (guess : Parameters) (n : ℕ) where
+  nine : meetOf a b guess tol ≡ met.Nothing → refusedWalk refusal.NoMeeting n ≡ walkOf a b tol guess n
+  unfolding walkOf
+  nine m = rw m
+
+  ten : (x : Parameters) → meetOf a b guess tol ≡ met.At x → tangentOf a b x tol ≡ direction.Missing → refusedWalk refusal.NoDirection n ≡ walkOf a b tol guess n
+  unfolding walkOf
+  ten x m d = rw (m, d)
+
+  along : (x : Parameters) (t : Vector3D) → meetOf a b guess tol ≡ met.At x → tangentOf a b x tol ≡ direction.Along t → settled a n (lineOf a b tol x t n) ≡ walkOf a b tol guess n
+  unfolding walkOf
+  along x t m d = rw (m, d)
+
+meet-requires : tie.Need-meet-requires
+meet-requires c κs = search needs
+
+enum-known-seed : tie.Need-enum-known-seed
+enum-known-seed c = search needs
+
+enum-told : tie.Need-enum-told
+enum-told c = search needs
+
+clear-requires : tie.Need-clear-requires
+clear-requires c κs = search needs
+
+same-length : tie.Need-same-length
+same-length c = search needs
+
+returns : tie.Need-returns
+returns c =
+    let m = c .before .before .before .before .before .before in
+    let st = m .before .before in
+    let g = st .args in
+    let e = nine (g .a) (g .b) (g .tol) (g .guess) (g .n) (sym (m .meet .ensures) ∙ c .before .before .before .before .enum-told .given .1) in
+    let z = c .before .before .clear .ensures ∙ cleared (now (g .points)) ∙ ap (λ (k : ℕ). replicate k positiveZero) (st .pre .1) in
+    (ap (λ (o : Outcome). o .answer) e, z ∙ ap (λ (o : Outcome). o .buffer) e)
+
+tangent-requires : tie.Need-tangent-requires
+tangent-requires c κs = search needs
+
+enum-known-t : tie.Need-enum-known-t
+enum-known-t c = search needs
+
+enum-told-2 : tie.Need-enum-told-2
+enum-told-2 c = search needs
+
+clear-requires-2 : tie.Need-clear-requires-2
+clear-requires-2 c κs = search needs
+
+same-length-2 : tie.Need-same-length-2
+same-length-2 c = search needs
+
+returns-2 : tie.Need-returns-2
+returns-2 c =
+    let d = c .before .before .before .before .before .before in
+    let x = d .before .before in
+    let m = x .before .before in
+    let st = m .before .before in
+    let g = st .args in
+    let e = ten (g .a) (g .b) (g .tol) (g .guess) (g .n) _ (sym (m .meet .ensures) ∙ x .seed .given .1) (sym (d .tangent .ensures) ∙ c .before .before .before .before .enum-told2 .given .1) in
+    let z = c .before .before .clear2 .ensures ∙ cleared (now (g .points)) ∙ ap (λ (k : ℕ). replicate k positiveZero) (st .pre .1) in
+    (ap (λ (o : Outcome). o .answer) e, z ∙ ap (λ (o : Outcome). o .buffer) e)
+
+eval-point-requires : tie.Need-eval-point-requires
+eval-point-requires c κs = search needs
+
+line-requires : tie.Need-line-requires
+line-requires c κs = (c .before .eval-point .ensures, c .before .before .before .before .before .before .before .before .before .before .before .pre)
+
+same-length-3 : tie.Need-same-length-3
+same-length-3 c = search needs
+
+returns-3 : tie.Need-returns-3
+returns-3 c =
+    let d = c .before .before .before .before .before .before .before .before in
+    let x = d .before .before in
+    let m = x .before .before in
+    let g = m .before .before .args in
+    let e = along (g .a) (g .b) (g .tol) (g .guess) (g .n) _ _ (sym (m .meet .ensures) ∙ x .seed .given .1) (sym (d .tangent .ensures) ∙ c .before .before .before .before .before .before .t .given .1) in
+    let z = c .before .before .line .ensures in
+    (z .0 ∙ ap (λ (o : Outcome). o .answer) e, z .1 ∙ ap (λ (o : Outcome). o .buffer) e)
+
+pub walk-from-spec : {M : Type 1} → statement M
+walk-from-spec =
+    tie.close
+    (tie.spec
+    meet-requires
+    enum-known-seed
+    enum-told
+    clear-requires
+    same-length
+    returns
+    tangent-requires
+    enum-known-t
+    enum-told-2
+    clear-requires-2
+    same-length-2
+    returns-2
+    eval-point-requires
+    line-requires
+    same-length-3
+    returns-3)
