@@ -10,10 +10,10 @@ use Rattle.refusal.proofs.Laws.{number-positive, number-small}
 use Rattle.geometry.specs.declared.tolerance.Tolerance.{Tolerance}
 use Rattle.patch.specs.declared.patch.Patch.{Patch}
 use Rattle.patch.specs.declared.patch.Parameters.{Parameters}
-use Rattle.certificate.specs.declared.check.Checked.{Checked}
-use Rattle.certificate.specs.declared.check.Checked.the-variants as checked
+use Rattle.refusal.specs.declared.Verdict.{Verdict}
+use Rattle.refusal.specs.declared.Verdict.the-variants as checked
 use Rattle.certificate.specs.Passes.{Passes, ClosedAs, claimed-open, forward, backward}
-use Rattle.certificate.specs.Check as check
+use Rattle.refusal.specs.Verdict as verdict
 use Rattle.certificate.proofs.Index.{check-index}
 use Rattle.walk.specs.declared.answer.Traced.{Traced}
 use Rattle.walk.specs.declared.answer.Traced.the-variants as traced
@@ -105,18 +105,18 @@ traced-unread t {r = r} e f =
 -- ---- the check's word
 
 -- what `check` answers has room in a word
-pub index-told : {a b : Patch} {tol : Tolerance} {l : List Float} (count start code : ℕ) {s : Checked} → CheckPromise a b tol l count start code s → check.indexOf s < 4294967296
+pub index-told : {a b : Patch} {tol : Tolerance} {l : List Float} (count start code : ℕ) {s : Verdict} → CheckPromise a b tol l count start code s → verdict.indexIn s < 4294967296
 index-told {a} {b} {tol} {l} count start code p = let h = check-index a b tol l count start code in rw (p .answer) (omega (arith, h))
 
 -- so a refusal has
-pub refusal-fits : {s : Checked} {r : Refusal} → s ≡ checked.Refused r → check.indexOf s < 4294967296 → indexOf r < 4294967296
-refusal-fits e h = subst (λ (t : Checked). check.indexOf t < 4294967296) e h
+pub refusal-fits : {s : Verdict} {r : Refusal} → s ≡ checked.Refused r → verdict.indexIn s < 4294967296 → indexOf r < 4294967296
+refusal-fits e h = subst (λ (t : Verdict). verdict.indexIn t < 4294967296) e h
 
-word-passed : (s : Checked) → checkedWord s ≡ 0 → check.refusalOf s ≡ 0
+word-passed : (s : Verdict) → checkedWord s ≡ 0 → verdict.refusalOf s ≡ 0
 unfolding checkedWord
 word-passed s e = omega (arith, e)
 
-passed-word : (s : Checked) → check.refusalOf s ≡ 0 → checkedWord s ≡ 0
+passed-word : (s : Verdict) → verdict.refusalOf s ≡ 0 → checkedWord s ≡ 0
 unfolding checkedWord
 passed-word checked.Passed e = refl
 passed-word (checked.Refused r) e = let h = number-positive r in absurd (omega (arith, h, e))
@@ -126,7 +126,7 @@ jobIn d (Whole j) = j
 jobIn d (Refused r) = d
 
 module _ (bytes : List ℕ) (l : List Float) (count start code : ℕ) where
-  pub checked-word : {j : Job} {s : Checked} {w : ℕ} → jobOf bytes ≡ Whole j → CheckPromise (j .a) (j .b) (j .tol) l count start code s → w ≡ checkedWord s
+  pub checked-word : {j : Job} {s : Verdict} {w : ℕ} → jobOf bytes ≡ Whole j → CheckPromise (j .a) (j .b) (j .tol) l count start code s → w ≡ checkedWord s
       → CheckWord bytes l count start code w
   unfolding checkAnswer
   checked-word {j} {s} e p f =

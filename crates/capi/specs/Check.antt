@@ -4,9 +4,10 @@ use mathlib.Core.List.{List}
 use Prim.Native.Nat.{ℕ, _+_, _*_, _^_}
 use lib.Ieee.{Float}
 use Rattle.refusal.specs.Refusal.{numberOf}
-use Rattle.certificate.specs.declared.check.Checked.{Checked}
+use Rattle.refusal.specs.declared.Verdict.{Verdict}
 use Rattle.certificate.specs.Passes.{Passes}
-use Rattle.certificate.specs.Check.{refusalOf, indexOf, checkOf}
+use Rattle.refusal.specs.Verdict.{refusalOf, indexIn}
+use Rattle.certificate.specs.Check.{checkOf}
 use Rattle.job.specs.declared.file.Job.{Job}
 use Rattle.job.specs.declared.file.JobRead.{JobRead}
 use Rattle.job.specs.declared.file.JobRead.the-variants.{Whole, Refused}
@@ -14,8 +15,8 @@ use Rattle.job.specs.File.{jobOf}
 use Rattle.passing.specs.Promises.{JobPasses}
 
 -- the refusal's number + 2^32 times the index of the point that 13 to 16 name (include/geomcore.h)
-unfoldable pub checkedWord : Checked → ℕ
-checkedWord answer = refusalOf answer + indexOf answer * 2 ^ 32
+unfoldable pub checkedWord : Verdict → ℕ
+checkedWord answer = refusalOf answer + indexIn answer * 2 ^ 32
 
 -- 19, or the check against the job that was read
 abbrev pub afterReading : JobRead → List Float → ℕ → ℕ → ℕ → ℕ

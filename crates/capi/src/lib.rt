@@ -3,19 +3,19 @@
 //! `rt staticlib capi` writes the archive. A slice passes as a pointer and a length.
 use boxes::Aabb;
 use boxes::Crossed;
-use certificate::Checked;
 use geometry::Point3D;
 use geometry::Tolerance;
 use job::JobRead;
 use job::SurfaceRead;
 use patch::Located;
 use patch::Patch;
+use refusal::Verdict;
 use walk::Traced;
 ghost use mathlib.Core.Path.{_≡_};
 ghost use Prim.Native.Nat.{_+_, _*_, _≤_, _<_};
 ghost use lib.ListN.{length};
 ghost use Rattle.capi.specs.Answer.{answered};
-ghost use Rattle.certificate.specs.Check.{indexOf};
+ghost use Rattle.refusal.specs.Verdict.{indexIn};
 ghost use Rattle.capi.specs.Check.{checkedWord, CheckWord};
 ghost use Rattle.capi.specs.Crossing.{crossedWord, cornerAt, crossingAnswer};
 ghost use Rattle.capi.specs.Point.{put3, pointOn, pointAnswer};
@@ -144,13 +144,13 @@ fn refused_word(number: u64, index: u64) -> u64
 }
 
 // The answer's word: 0, or the refusal's word.
-fn checked_word(answer: Checked) -> u64
-    requires { ⌜ indexOf answer < 4294967296 ⌝ }
+fn checked_word(answer: Verdict) -> u64
+    requires { ⌜ indexIn answer < 4294967296 ⌝ }
     ensures { λ r. ⌜ r ≡ checkedWord answer ⌝ }
 {
     match answer {
-        Checked::Passed => 0,
-        Checked::Refused(refusal) => refused_word(refusal.number(), refusal.index()),
+        Verdict::Passed => 0,
+        Verdict::Refused(refusal) => refused_word(refusal.number(), refusal.index()),
     }
 }
 

@@ -27,19 +27,18 @@ use Rattle.geometry.specs.declared.tolerance.Tolerance.{Tolerance}
 use Rattle.geometry.specs.Point.{distanceOf, longestChord}
 use Rattle.geometry.specs.Tolerance.{toleranceFit}
 use Rattle.patch.specs.declared.patch.Patch.{Patch}
-use Rattle.patch.specs.declared.patch.Fitness.{Fitness}
-use Rattle.patch.specs.declared.patch.Fitness.the-variants.{Fit, Unfit}
+use Rattle.refusal.specs.declared.Verdict.{Verdict}
+use Rattle.refusal.specs.declared.Verdict.the-variants.{Passed, Refused}
 use Rattle.patch.specs.Located.{pointA, pointB}
 use Rattle.patch.specs.Patch.{fitnessOf, insideOf}
-use Rattle.certificate.specs.declared.check.Checked.{Checked}
-use Rattle.certificate.specs.declared.check.Checked.the-variants.{Passed, Refused}
 use Rattle.certificate.specs.Passes.{parametersAt, closingChord, PointPasses, ClosedAs, claimed-open, forward, backward, Passes}
-use Rattle.certificate.specs.Check.{andThen, asked, finitePoint, samePoint, ownOf, pointAnswer, chordFits, answerAt, stopped, pointBody, allPassed, pointsAnswer, sameRow, closingSo, claimSo, fitOf, claimAnswer, checkOf}
+use Rattle.refusal.specs.Verdict.{andThen, asked}
+use Rattle.certificate.specs.Check.{finitePoint, samePoint, ownOf, pointAnswer, chordFits, answerAt, stopped, pointBody, allPassed, pointsAnswer, sameRow, closingSo, claimSo, claimAnswer, checkOf}
 use Rattle.certificate.proofs.Bits.{Binary64, point-equal, equal-point, read-fits, row-equal, equal-row, fresh-fits}
 
 -- ---- answers and tests
 
-abbrev sign : Checked → ℕ
+abbrev sign : Verdict → ℕ
 sign Passed = 1
 sign (Refused r) = 0
 
@@ -119,10 +118,10 @@ module _ (a b : Patch) (tol : Tolerance) (l : List Float) (count closing : ℕ) 
 
   -- ---- the search over the points
 
-  abbrev from : ℕ → Flow (Unit {0}) Checked → Checked
+  abbrev from : ℕ → Flow (Unit {0}) Verdict → Verdict
   from i s = searched (pointBody a b (tol .confusion) l count closing) allPassed i count s
 
-  abbrev answer : ℕ → Checked
+  abbrev answer : ℕ → Verdict
   answer i = answerAt a b (tol .confusion) l count closing i
 
   -- it passes only where each point does
@@ -131,10 +130,10 @@ module _ (a b : Patch) (tol : Tolerance) (l : List Float) (count closing : ℕ) 
   each-passed (suc k) i e p j h n = go (answer i) refl (λ q d. each-passed k (i + 1) (omega arith) q j (omega arith) n)
     where
       -- the search from i on goes on from the answer of point i
-      next : {s : Checked} → answer i ≡ s → from (i + 1) (stopped s) ≡ Passed
+      next : {s : Verdict} → answer i ≡ s → from (i + 1) (stopped s) ≡ Passed
       next q = ap (from (i + 1)) (ap stopped (sym q)) ∙ sym (searched-step _ allPassed i count tt (omega arith)) ∙ p
 
-      go : (s : Checked) → answer i ≡ s → (from (i + 1) (on tt) ≡ Passed → (i ≡ j → ⊥) → answer j ≡ Passed) → answer j ≡ Passed
+      go : (s : Verdict) → answer i ≡ s → (from (i + 1) (on tt) ≡ Passed → (i ≡ j → ⊥) → answer j ≡ Passed) → answer j ≡ Passed
       go (Refused r) q f = absurd (unpassed (sym (searched-out _ allPassed (i + 1) count (Refused r)) ∙ next q))
       go Passed q f = cases (eqb i j) (λ w. subst (λ (m : ℕ). answer m ≡ Passed) (eqb-true i j w) q) (λ w. f (next q) (eqb-false i j w))
 
@@ -217,37 +216,37 @@ module _ (l : List Float) (count start closing : ℕ) (lent : width * count ≤ 
 
 -- ---- the whole
 
-before-stages : (f g : Fitness) (t h c : Bool)
-    → andThen (fitOf f) (andThen (fitOf g) (pick t (pick h (asked c refusal.Claim) (Refused refusal.Lent)) (Refused refusal.Tolerance))) ≡ Passed
-    → (f ≡ Fit) × (g ≡ Fit) × (t ≡ true) × (h ≡ true) × (c ≡ true)
-before-stages (Unfit r) g t h c e = absurd (unpassed e)
-before-stages Fit (Unfit r) t h c e = absurd (unpassed e)
-before-stages Fit Fit false h c e = absurd (unpassed e)
-before-stages Fit Fit true false c e = absurd (unpassed e)
-before-stages Fit Fit true true false e = absurd (unpassed e)
-before-stages Fit Fit true true true e = (refl, refl, refl, refl, refl)
+before-stages : (f g : Verdict) (t h c : Bool)
+    → andThen f (andThen g (pick t (pick h (asked c refusal.Claim) (Refused refusal.Lent)) (Refused refusal.Tolerance))) ≡ Passed
+    → (f ≡ Passed) × (g ≡ Passed) × (t ≡ true) × (h ≡ true) × (c ≡ true)
+before-stages (Refused r) g t h c e = absurd (unpassed e)
+before-stages Passed (Refused r) t h c e = absurd (unpassed e)
+before-stages Passed Passed false h c e = absurd (unpassed e)
+before-stages Passed Passed true false c e = absurd (unpassed e)
+before-stages Passed Passed true true false e = absurd (unpassed e)
+before-stages Passed Passed true true true e = (refl, refl, refl, refl, refl)
 
-then-passed : (s t : Checked) → andThen s t ≡ Passed → (s ≡ Passed) × (t ≡ Passed)
+then-passed : (s t : Verdict) → andThen s t ≡ Passed → (s ≡ Passed) × (t ≡ Passed)
 then-passed (Refused r) t e = absurd (unpassed e)
 then-passed Passed t e = (refl, e)
 
 module _ (a b : Patch) (tol : Tolerance) (l : List Float) (count start closing : ℕ) where
   -- what stands before the points is the answer where it refuses; where it doesn't all numbers are lent, and the points' answer is
-  pub refused-before : {s : Checked} {r : Refusal} → s ≡ claimAnswer a b tol l count start closing → s ≡ Refused r → Refused r ≡ checkOf a b tol l count start closing
+  pub refused-before : {s : Verdict} {r : Refusal} → s ≡ claimAnswer a b tol l count start closing → s ≡ Refused r → Refused r ≡ checkOf a b tol l count start closing
   unfolding checkOf
   refused-before e f = rw (← e, f)
 
-  pub claim-lent : {s : Checked} → s ≡ claimAnswer a b tol l count start closing → s ≡ Passed → width * count ≤ length l
+  pub claim-lent : {s : Verdict} → s ≡ claimAnswer a b tol l count start closing → s ≡ Passed → width * count ≤ length l
   unfolding claimAnswer
   claim-lent e f = holds-length width l count (before-stages (fitnessOf a) (fitnessOf b) (toleranceFit tol) (holdsOf width l count) (claimSo l count start closing) (sym e ∙ f) .3)
 
-  pub claim-count : {s : Checked} → s ≡ claimAnswer a b tol l count start closing → s ≡ Passed → count ≤ 4001
+  pub claim-count : {s : Verdict} → s ≡ claimAnswer a b tol l count start closing → s ≡ Passed → count ≤ 4001
   unfolding claimAnswer
   claim-count e f =
       let b = before-stages (fitnessOf a) (fitnessOf b) (toleranceFit tol) (holdsOf width l count) (claimSo l count start closing) (sym e ∙ f) in
       claimed l count start closing (holds-length width l count (b .3)) (b .4) .1
 
-  pub answered : {s r : Checked} → s ≡ claimAnswer a b tol l count start closing → s ≡ Passed → r ≡ pointsAnswer a b (tol .confusion) l count closing → r ≡ checkOf a b tol l count start closing
+  pub answered : {s r : Verdict} → s ≡ claimAnswer a b tol l count start closing → s ≡ Passed → r ≡ pointsAnswer a b (tol .confusion) l count closing → r ≡ checkOf a b tol l count start closing
   unfolding checkOf
   answered e f g = rw (← e, f) g
 

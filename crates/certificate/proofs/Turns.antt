@@ -8,19 +8,19 @@ use Rattle.refusal.specs.declared.Refusal.{Refusal}
 use Rattle.geometry.specs.declared.point.Point3D.{Point3D}
 use Rattle.patch.specs.declared.patch.Patch.{Patch}
 use Rattle.patch.specs.declared.patch.Parameters.{Parameters}
-use Rattle.certificate.specs.declared.check.Checked.{Checked}
-use Rattle.certificate.specs.declared.check.Checked.the-variants.{Passed, Refused}
+use Rattle.refusal.specs.declared.Verdict.{Verdict}
+use Rattle.refusal.specs.declared.Verdict.the-variants.{Passed, Refused}
 use Rattle.groups.specs.Row.{pointAt}
 use Rattle.certificate.specs.Passes.{parametersAt}
 use Rattle.certificate.specs.Check.{pointAnswer, answerAt, stopped, pointBody}
 
 module _ (a b : Patch) (confusion : Float) (l : List Float) where
   -- the point and its parameters are those read off the list
-  pub read-answer : (i : ℕ) {p : Point3D} {x : Parameters} {r : Checked} → p ≡ pointAt l i → x ≡ parametersAt l i → r ≡ pointAnswer a b confusion p x i
+  pub read-answer : (i : ℕ) {p : Point3D} {x : Parameters} {r : Verdict} → p ≡ pointAt l i → x ≡ parametersAt l i → r ≡ pointAnswer a b confusion p x i
       → r ≡ pointAnswer a b confusion (pointAt l i) (parametersAt l i) i
   read-answer i {p} {x} e f g = g ∙ ap (λ (q : Point3D). pointAnswer a b confusion q x i) e ∙ ap (λ (y : Parameters). pointAnswer a b confusion (pointAt l i) y i) f
 
-  module _ (count closing i : ℕ) {s : Checked} (e : s ≡ answerAt a b confusion l count closing i) where
+  module _ (count closing i : ℕ) {s : Verdict} (e : s ≡ answerAt a b confusion l count closing i) where
     -- a refusal ends the loop, and it goes on from a point that passes
     pub turn-out : {r : Refusal} → s ≡ Refused r → pointBody a b confusion l count closing i tt ≡ out (Refused r)
     turn-out f = ap stopped (sym e ∙ f)

@@ -13,39 +13,18 @@ use Rattle.groups.specs.declared.row.Row.{Row}
 use Rattle.groups.specs.Row.{rowOf, pointAt}
 use Rattle.refusal.specs.declared.Refusal.{Refusal}
 use Rattle.refusal.specs.declared.Refusal.the-variants as refusal
-use Rattle.refusal.specs.Refusal as number
+use Rattle.refusal.specs.Verdict.{andThen, asked}
 use Rattle.geometry.specs.declared.point.Point3D.{Point3D}
 use Rattle.geometry.specs.declared.tolerance.Tolerance.{Tolerance}
 use Rattle.geometry.specs.Point.{distanceOf, longestChord}
 use Rattle.geometry.specs.Tolerance.{toleranceFit}
 use Rattle.patch.specs.declared.patch.Patch.{Patch}
 use Rattle.patch.specs.declared.patch.Parameters.{Parameters}
-use Rattle.patch.specs.declared.patch.Fitness.{Fitness}
-use Rattle.patch.specs.declared.patch.Fitness.the-variants.{Fit, Unfit}
+use Rattle.refusal.specs.declared.Verdict.{Verdict}
+use Rattle.refusal.specs.declared.Verdict.the-variants.{Passed, Refused}
 use Rattle.patch.specs.Located.{pointA, pointB}
 use Rattle.patch.specs.Patch.{fitnessOf, insideOf}
-use Rattle.certificate.specs.declared.check.Checked.{Checked}
-use Rattle.certificate.specs.declared.check.Checked.the-variants.{Passed, Refused}
 use Rattle.certificate.specs.Passes.{parametersAt, closingChord}
-
--- the paper's number for each case (0: passed)
-abbrev pub refusalOf : Checked → ℕ
-refusalOf Passed = 0
-refusalOf (Refused r) = number.numberOf r
-
--- the index of the point that 13 to 16 add; 0 for all others
-abbrev pub indexOf : Checked → ℕ
-indexOf Passed = 0
-indexOf (Refused r) = number.indexOf r
-
--- one test after another: the first refusal is the answer
-abbrev pub andThen : Checked → Checked → Checked
-andThen (Refused r) next = Refused r
-andThen Passed next = next
-
--- one test: refused where it fails
-abbrev pub asked : Bool → Refusal → Checked
-asked t r = pick t Passed (Refused r)
 
 -- ---- 13: "not A's own point: a coordinate worked out afresh is not finite, or its bits differ"
 
@@ -64,7 +43,7 @@ ownOf stored fresh = finitePoint fresh && samePoint stored fresh
 -- ---- point i: "14, 13, 15", then 16
 
 -- 14: "a parameter outside a window that has no turn mark; NaN is outside"; 15: "computed gap not at most confusion"
-unfoldable pub pointAnswer : Patch → Patch → Float → Point3D → Parameters → ℕ → Checked
+unfoldable pub pointAnswer : Patch → Patch → Float → Point3D → Parameters → ℕ → Verdict
 pointAnswer a b confusion p x i =
     pick (insideOf a b x)
     (pick (ownOf p (pointA a x))
@@ -80,25 +59,25 @@ chordFits l count closing i =
     (distanceOf (pointAt l i) (pointAt l (i - 1)) ≤? longestChord))
 
 -- all four tests of point i
-unfoldable pub answerAt : Patch → Patch → Float → List Float → ℕ → ℕ → ℕ → Checked
+unfoldable pub answerAt : Patch → Patch → Float → List Float → ℕ → ℕ → ℕ → Verdict
 answerAt a b confusion l count closing i =
     andThen (pointAnswer a b confusion (pointAt l i) (parametersAt l i) i) (asked (chordFits l count closing i) (refusal.Chord i))
 
 -- "then point by point": the first refusal is the answer
-abbrev pub stopped : Checked → Flow (Unit {0}) Checked
+abbrev pub stopped : Verdict → Flow (Unit {0}) Verdict
 stopped (Refused r) = out (Refused r)
 stopped Passed = on tt
 
 -- one turn of the loop over the points
-abbrev pub pointBody : Patch → Patch → Float → List Float → ℕ → ℕ → ℕ → Unit {0} → Flow (Unit {0}) Checked
+abbrev pub pointBody : Patch → Patch → Float → List Float → ℕ → ℕ → ℕ → Unit {0} → Flow (Unit {0}) Verdict
 pointBody a b confusion l count closing i s = stopped (answerAt a b confusion l count closing i)
 
 -- no point was refused
-abbrev pub allPassed : Unit {0} → Checked
+abbrev pub allPassed : Unit {0} → Verdict
 allPassed s = Passed
 
 -- all points, from 0 on
-unfoldable pub pointsAnswer : Patch → Patch → Float → List Float → ℕ → ℕ → Checked
+unfoldable pub pointsAnswer : Patch → Patch → Float → List Float → ℕ → ℕ → Verdict
 pointsAnswer a b confusion l count closing = searched (pointBody a b confusion l count closing) allPassed 0 count (on tt)
 
 -- ---- 12: "count outside 4 to 4001, start index not below the count, closing code above 2, or a closing that isn't so"
@@ -131,21 +110,16 @@ claimSo l count start closing =
 
 -- ---- the whole
 
--- "1 to 4" of a surface
-abbrev pub fitOf : Fitness → Checked
-fitOf (Unfit r) = Refused r
-fitOf Fit = Passed
-
 -- "A, B, 5, 8, 12"
-unfoldable pub claimAnswer : Patch → Patch → Tolerance → List Float → ℕ → ℕ → ℕ → Checked
+unfoldable pub claimAnswer : Patch → Patch → Tolerance → List Float → ℕ → ℕ → ℕ → Verdict
 claimAnswer a b tol l count start closing =
-    andThen (fitOf (fitnessOf a))
-    (andThen (fitOf (fitnessOf b))
+    andThen (fitnessOf a)
+    (andThen (fitnessOf b)
     (pick (toleranceFit tol)
     (pick (holdsOf width l count) (asked (claimSo l count start closing) refusal.Claim) (Refused refusal.Lent))
     (Refused refusal.Tolerance)))
 
 -- "Check: A, B, 5, 8, 12, then point by point 14, 13, 15, 16"
-unfoldable pub checkOf : Patch → Patch → Tolerance → List Float → ℕ → ℕ → ℕ → Checked
+unfoldable pub checkOf : Patch → Patch → Tolerance → List Float → ℕ → ℕ → ℕ → Verdict
 checkOf a b tol l count start closing =
     andThen (claimAnswer a b tol l count start closing) (pointsAnswer a b (tol .confusion) l count closing)

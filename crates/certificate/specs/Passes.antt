@@ -16,7 +16,7 @@ use Rattle.geometry.specs.Point.{distanceOf, longestChord}
 use Rattle.geometry.specs.Tolerance.{toleranceFit}
 use Rattle.patch.specs.declared.patch.Patch.{Patch}
 use Rattle.patch.specs.declared.patch.Parameters.{Parameters}
-use Rattle.patch.specs.declared.patch.Fitness.the-variants.{Fit}
+use Rattle.refusal.specs.declared.Verdict.the-variants.{Passed}
 use Rattle.patch.specs.Located.{pointA, pointB}
 use Rattle.patch.specs.Patch.{fitnessOf, insideOf}
 
@@ -49,8 +49,8 @@ pub data ClosedAs (l : List Float) (count start closing : ℕ) : Type 0 where
 -- the trace of `count` points at the head of the list l passes
 pub record Passes (a b : Patch) (tol : Tolerance) (l : List Float) (count start closing : ℕ) : Type 0 where
   -- surfaces and tolerance are fit ("when 1 to 5 let them through")
-  pub fitA : fitnessOf a ≡ Fit
-  pub fitB : fitnessOf b ≡ Fit
+  pub fitA : fitnessOf a ≡ Passed
+  pub fitB : fitnessOf b ≡ Passed
   pub tolerance : T (toleranceFit tol)
   -- all its numbers are lent
   pub lent : width * count ≤ length l

@@ -3,22 +3,16 @@ use geometry::Tolerance;
 use groups::Row;
 use groups::row::point_at;
 use groups::row::row_of;
-use patch::Fitness;
 use patch::Parameters;
 use patch::Patch;
 use refusal::Refusal;
+use refusal::Verdict;
 ghost use mathlib.Core.Path.{_≡_};
 ghost use Prim.Native.Nat.{_+_, _*_, _≤_, _<_};
 ghost use lib.ListN.{length};
 ghost use Rattle.groups.specs.Groups.{width};
 ghost use Rattle.certificate.specs.Passes.{parametersAt, closingChord};
 ghost use Rattle.certificate.specs.Check.{finitePoint, samePoint, ownOf, pointAnswer, chordFits, answerAt, pointsAnswer, sameRow, closingSo, claimSo, claimAnswer, checkOf};
-
-// The answer of the public check.
-pub enum Checked {
-    Passed,
-    Refused(Refusal),
-}
 
 // The parameters beside the coordinates of point i of a lent trace.
 fn parameters_at(points: &[f64], i: usize) -> Parameters
@@ -74,22 +68,22 @@ fn own(stored: Point3D, fresh: Point3D) -> bool
 }
 
 // Refusals 14, 13 and 15 of a point p with the parameters x beside it.
-fn point_answer(a: Patch, b: Patch, confusion: f64, p: Point3D, x: Parameters, i: usize) -> Checked
+fn point_answer(a: Patch, b: Patch, confusion: f64, p: Point3D, x: Parameters, i: usize) -> Verdict
     ensures { λ r. ⌜ r ≡ pointAnswer a b confusion p x i ⌝ }
 {
     if !patch::inside(a, b, x) {
-        return Checked::Refused(Refusal::OutsideWindow(i as u64));
+        return Verdict::Refused(Refusal::OutsideWindow(i as u64));
     }
     let on = a.surface;
     let fresh = on.eval_point(x.u1, x.v1);
     if !own(p, fresh) {
-        return Checked::Refused(Refusal::NotOwnPoint(i as u64));
+        return Verdict::Refused(Refusal::NotOwnPoint(i as u64));
     }
     let other = b.surface;
     if fresh.within(other.eval_point(x.u2, x.v2), confusion) {
-        Checked::Passed
+        Verdict::Passed
     } else {
-        Checked::Refused(Refusal::Gap(i as u64))
+        Verdict::Refused(Refusal::Gap(i as u64))
     }
 }
 
@@ -131,7 +125,7 @@ fn answer_at(
     count: usize,
     closing: usize,
     i: usize,
-) -> Checked
+) -> Verdict
     requires { ⌜ (i < count) × (width * count ≤ length (now points)) ⌝ }
     ensures { λ r. ⌜ r ≡ answerAt a b confusion (now (points .entry)) count closing i ⌝ }
 {
@@ -139,12 +133,12 @@ fn answer_at(
     let x = parameters_at(points, i);
     let answer = point_answer(a, b, confusion, p, x, i);
     match answer {
-        Checked::Refused(refusal) => Checked::Refused(refusal),
-        Checked::Passed => {
+        Verdict::Refused(refusal) => Verdict::Refused(refusal),
+        Verdict::Passed => {
             if chord_fits(points, count, closing, i) {
-                Checked::Passed
+                Verdict::Passed
             } else {
-                Checked::Refused(Refusal::Chord(i as u64))
+                Verdict::Refused(Refusal::Chord(i as u64))
             }
         }
     }
@@ -158,20 +152,20 @@ fn points_answer(
     points: &[f64],
     count: usize,
     closing: usize,
-) -> Checked
+) -> Verdict
     requires { ⌜ width * count ≤ length (now points) ⌝ }
     ensures { λ r. ⌜ r ≡ pointsAnswer a b confusion (now (points .entry)) count closing ⌝ }
 {
     for i in 0..count {
         let answer = answer_at(a, b, confusion, points, count, closing, i);
         match answer {
-            Checked::Refused(refusal) => {
-                return Checked::Refused(refusal);
+            Verdict::Refused(refusal) => {
+                return Verdict::Refused(refusal);
             }
-            Checked::Passed => {}
+            Verdict::Passed => {}
         }
     }
-    Checked::Passed
+    Verdict::Passed
 }
 
 // Whether all seven numbers of two points are equal in bits.
@@ -248,33 +242,33 @@ fn claim_answer(
     count: usize,
     start: usize,
     closing: usize,
-) -> Checked
+) -> Verdict
     ensures { λ r. ⌜ r ≡ claimAnswer a b tol (now (points .entry)) count start closing ⌝ }
 {
     let fit_a = a.fitness();
     match fit_a {
-        Fitness::Unfit(refusal) => {
-            return Checked::Refused(refusal);
+        Verdict::Refused(refusal) => {
+            return Verdict::Refused(refusal);
         }
-        Fitness::Fit => {}
+        Verdict::Passed => {}
     }
     let fit_b = b.fitness();
     match fit_b {
-        Fitness::Unfit(refusal) => {
-            return Checked::Refused(refusal);
+        Verdict::Refused(refusal) => {
+            return Verdict::Refused(refusal);
         }
-        Fitness::Fit => {}
+        Verdict::Passed => {}
     }
     if !tol.is_fit() {
-        return Checked::Refused(Refusal::Tolerance);
+        return Verdict::Refused(Refusal::Tolerance);
     }
     if !groups::holds(points, count) {
-        return Checked::Refused(Refusal::Lent);
+        return Verdict::Refused(Refusal::Lent);
     }
     if claim_so(points, count, start, closing) {
-        Checked::Passed
+        Verdict::Passed
     } else {
-        Checked::Refused(Refusal::Claim)
+        Verdict::Refused(Refusal::Claim)
     }
 }
 
@@ -287,12 +281,12 @@ pub fn check(
     count: usize,
     start: usize,
     closing: usize,
-) -> Checked
+) -> Verdict
     ensures { λ r. ⌜ r ≡ checkOf a b tol (now (trace .entry)) count start closing ⌝ }
 {
     let claim = claim_answer(a, b, tol, trace, count, start, closing);
     match claim {
-        Checked::Refused(refusal) => Checked::Refused(refusal),
-        Checked::Passed => points_answer(a, b, tol.confusion, trace, count, closing),
+        Verdict::Refused(refusal) => Verdict::Refused(refusal),
+        Verdict::Passed => points_answer(a, b, tol.confusion, trace, count, closing),
     }
 }

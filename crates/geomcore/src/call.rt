@@ -1,10 +1,10 @@
 use boxes::Aabb;
 use boxes::Crossed;
-use certificate::check::Checked;
 use geometry::Tolerance;
 use patch::Located;
 use patch::Parameters;
 use patch::Patch;
+use refusal::Verdict;
 use walk::Traced;
 ghost use Rattle.passing.specs.Promises.{PointPromise, TracePromise, CheckPromise, CrossingPromise};
 
@@ -53,7 +53,7 @@ pub fn check(
     count: usize,
     start: usize,
     closing: usize,
-) -> Checked
+) -> Verdict
     ensures { λ r. ⌜ CheckPromise a b tol (now (trace .entry)) count start closing r ⌝ }
 {
     certificate::check::check(a, b, tol, trace, count, start, closing)

@@ -25,8 +25,8 @@ use Rattle.analytic.specs.Surface.{evalPoint}
 use Rattle.patch.specs.declared.patch.Patch.{Patch}
 use Rattle.patch.specs.declared.patch.Window.{Window}
 use Rattle.patch.specs.Patch.{vectorFit, frameFit, numbersFit, sizesFit, windowFit, markFit, uIsAngle, vIsAngle, fitnessOf, windowHolds, insideOf}
-use Rattle.certificate.specs.declared.check.Checked.{Checked}
-use Rattle.certificate.specs.declared.check.Checked.the-variants.{Passed, Refused}
+use Rattle.refusal.specs.declared.Verdict.{Verdict}
+use Rattle.refusal.specs.declared.Verdict.the-variants.{Passed, Refused}
 use Rattle.certificate.specs.Passes.{Passes}
 use Rattle.certificate.specs.Check.{finitePoint, samePoint, ownOf, pointAnswer, chordFits, answerAt, pointsAnswer, sameRow, closingSo, claimSo, claimAnswer, checkOf}
 use Rattle.certificate.proofs.Bits.{Binary64}
@@ -73,7 +73,7 @@ fifth = bits 0x3fc9_9999_9999_999a
 abbrev line : Float → Float → Float → Float → List Float
 line x y u1 u2 = at (bits 0) (x ∷ y ∷ bits 0 ∷ u1 ∷ bits 0 ∷ u2 ∷ bits 0 ∷ at (bits 0x3fd9_9999_9999_999a) (at (bits 0) []))
 
-abbrev checked : Float → List Float → ℕ → ℕ → ℕ → Checked
+abbrev checked : Float → List Float → ℕ → ℕ → ℕ → Verdict
 checked h l count start closing = checkOf planeA (planeB h) tol l count start closing
 
 -- gaps of confusion itself, chords of 0.2 itself, and a closing chord of 0.4 pass

@@ -18,8 +18,8 @@ use Rattle.geometry.specs.declared.tolerance.Tolerance.{Tolerance}
 use Rattle.geometry.specs.Tolerance.{toleranceFit}
 use Rattle.patch.specs.declared.patch.Patch.{Patch}
 use Rattle.patch.specs.declared.patch.Parameters.{Parameters}
-use Rattle.patch.specs.declared.patch.Fitness.{Fitness}
-use Rattle.patch.specs.declared.patch.Fitness.the-variants.{Fit, Unfit}
+use Rattle.refusal.specs.declared.Verdict.{Verdict}
+use Rattle.refusal.specs.declared.Verdict.the-variants as verdict
 use Rattle.patch.specs.Patch.{fitnessOf}
 use Rattle.meeting.specs.declared.newton.Met.{Met}
 use Rattle.meeting.specs.declared.newton.Met.the-variants as met
@@ -56,7 +56,7 @@ lined (Refused q) e = let h = number-positive q in absurd (omega (arith, h, e))
 
 -- ---- a fit call
 
-module _ (a b : Patch) (tol : Tolerance) (fa : fitnessOf a ≡ Fit) (fb : fitnessOf b ≡ Fit) (fit : T (toleranceFit tol))
+module _ (a b : Patch) (tol : Tolerance) (fa : fitnessOf a ≡ verdict.Passed) (fb : fitnessOf b ≡ verdict.Passed) (fit : T (toleranceFit tol))
     (n : ℕ) (cap : n ≤ 2000) (rest : List Float) (count start closing : ℕ) where
   -- what holds of an outcome, `rest` being what lies past the room
   abbrev Passing : Outcome → Type 0
@@ -102,9 +102,9 @@ pub trace-passes : (a b : Patch) (tol : Tolerance) (guess : Parameters) (n : ℕ
 unfolding traceOf
 trace-passes a b tol guess n l count start closing e = go (callFitness a b tol guess n l) refl e
   where
-    go : (f : Fitness) → callFitness a b tol guess n l ≡ f → afterCall a b tol guess n l f .answer ≡ Line count start closing → Passes a b tol (afterCall a b tol guess n l f .buffer) count start closing
-    go (Unfit r) k q = absurd (unlined q)
-    go Fit k q =
+    go : (f : Verdict) → callFitness a b tol guess n l ≡ f → afterCall a b tol guess n l f .answer ≡ Line count start closing → Passes a b tol (afterCall a b tol guess n l f .buffer) count start closing
+    go (verdict.Refused r) k q = absurd (unlined q)
+    go verdict.Passed k q =
         let s = call-fit a b tol guess n l k in
         walked-passing a b tol (s .0) (s .1) (s .2) n (s .3) (drop (room n) l) count start closing guess q
 

@@ -8,10 +8,11 @@ use Rattle.refusal.proofs.Laws.{number-positive}
 use Rattle.geometry.specs.declared.tolerance.Tolerance.{Tolerance}
 use Rattle.patch.specs.declared.patch.Patch.{Patch}
 use Rattle.patch.specs.declared.patch.Parameters.{Parameters}
-use Rattle.certificate.specs.declared.check.Checked.{Checked}
-use Rattle.certificate.specs.declared.check.Checked.the-variants.{Passed, Refused}
+use Rattle.refusal.specs.declared.Verdict.{Verdict}
+use Rattle.refusal.specs.declared.Verdict.the-variants.{Passed, Refused}
 use Rattle.certificate.specs.Passes.{Passes}
-use Rattle.certificate.specs.Check.{refusalOf, checkOf}
+use Rattle.refusal.specs.Verdict.{refusalOf}
+use Rattle.certificate.specs.Check.{checkOf}
 use Rattle.certificate.proofs.Bits.{Binary64}
 use Rattle.certificate.proofs.Passed.{checked-passes, passes-checked}
 use Rattle.walk.specs.declared.answer.Traced.{Traced}
@@ -26,7 +27,7 @@ use Rattle.passing.proofs.Exact.{passes-exact}
 use Rattle.passing.proofs.Passing.{traced-passes}
 
 -- no refusal has the number 0
-pub not-refused : (r : Checked) → refusalOf r ≡ 0 → r ≡ Passed
+pub not-refused : (r : Verdict) → refusalOf r ≡ 0 → r ≡ Passed
 not-refused Passed e = refl
 not-refused (Refused q) e = let h = number-positive q in absurd (omega (arith, h, e))
 
@@ -45,7 +46,7 @@ trace-promised a b tol guess cap before {after} {r} answer buffer =
     passes z = traced-passes a b tol guess cap before answer buffer z
 
 module _ (a b : Patch) (tol : Tolerance) (l : List Float) (count start closing : ℕ) where
-  pub check-promised : Binary64 l → {r : Checked} → r ≡ checkOf a b tol l count start closing → CheckPromise a b tol l count start closing r
+  pub check-promised : Binary64 l → {r : Verdict} → r ≡ checkOf a b tol l count start closing → CheckPromise a b tol l count start closing r
   check-promised d {r} e = record { answer = e; passes = passes; complete = complete; exact = λ z. passes-exact a b tol l count start closing (passes z) }
     where
       passes : refusalOf r ≡ 0 → Passes a b tol l count start closing

@@ -18,7 +18,7 @@ use Rattle.geometry.specs.Tolerance.{toleranceFit}
 use Rattle.geometry.specs.Point.{distanceOf, longestChord}
 use Rattle.patch.specs.declared.patch.Patch.{Patch}
 use Rattle.patch.specs.declared.patch.Parameters.{Parameters}
-use Rattle.patch.specs.declared.patch.Fitness.the-variants.{Fit}
+use Rattle.refusal.specs.declared.Verdict.the-variants.{Passed}
 use Rattle.patch.specs.Patch.{fitnessOf, insideOf}
 use Rattle.patch.specs.Located.{pointA, pointB}
 use Rattle.meeting.specs.Intersection.{IsIntersection}
@@ -108,7 +108,7 @@ module _ (a b : Patch) (tol : Tolerance) (fit : T (toleranceFit tol)) where
     closed-as (round-forward e s q) = let m = v .among in forward e s (rows-same (length points - 1) 0 (omega (arith, m)) (omega (arith, m)) q)
     closed-as (round-back e s q) = let m = v .among in backward e s (rows-same 0 start (omega (arith, m)) m q)
 
-    pub line-passes : fitnessOf a ≡ Fit → fitnessOf b ≡ Fit → 4 ≤ length points → n ≤ 2000 → Passes a b tol l (length points) start closing
+    pub line-passes : fitnessOf a ≡ Passed → fitnessOf b ≡ Passed → 4 ≤ length points → n ≤ 2000 → Passes a b tol l (length points) start closing
     line-passes fa fb least cap = record {
       fitA = fa;
       fitB = fb;

@@ -11,10 +11,10 @@ use Rattle.patch.specs.declared.patch.Patch.{Patch}
 use Rattle.patch.specs.declared.patch.Parameters.{Parameters}
 use Rattle.patch.specs.declared.point.Located.{Located}
 use Rattle.patch.specs.Located.{pointA, pointB, locatedOf}
-use Rattle.certificate.specs.declared.check.Checked.{Checked}
+use Rattle.refusal.specs.declared.Verdict.{Verdict}
 use Rattle.certificate.specs.Passes.{parametersAt, Passes}
 use Rattle.certificate.specs.Check.{checkOf}
-use Rattle.certificate.specs.Check as check
+use Rattle.refusal.specs.Verdict as verdict
 use Rattle.walk.specs.declared.answer.Traced.{Traced}
 use Rattle.walk.specs.Trace.{countOf, startOf, closingOf, traceOf}
 use Rattle.walk.specs.Trace as trace
@@ -60,17 +60,17 @@ pub record TracePromise (a b : Patch) (tol : Tolerance) (guess : Parameters) (ca
   pub buffer : after ≡ traceOf a b tol guess cap before .buffer
   -- "every trace it returns passes the check": the conditions hold, the check says so, and the exact gaps are small
   pub passes : trace.refusalOf r ≡ 0 → Passes a b tol after (countOf r) (startOf r) (closingOf r)
-  pub checked : trace.refusalOf r ≡ 0 → check.refusalOf (checkOf a b tol after (countOf r) (startOf r) (closingOf r)) ≡ 0
+  pub checked : trace.refusalOf r ≡ 0 → verdict.refusalOf (checkOf a b tol after (countOf r) (startOf r) (closingOf r)) ≡ 0
   pub exact : trace.refusalOf r ≡ 0 → ExactGaps a b tol after (countOf r)
 
 -- the check of the first `count` points of a list
-pub record CheckPromise (a b : Patch) (tol : Tolerance) (l : List Float) (count start closing : ℕ) (r : Checked) : Type 0 where
+pub record CheckPromise (a b : Patch) (tol : Tolerance) (l : List Float) (count start closing : ℕ) (r : Verdict) : Type 0 where
   pub answer : r ≡ checkOf a b tol l count start closing
   -- "A check passes a trace exactly when 01's conditions hold": it passes no other trace, and it passes every such trace
-  pub passes : check.refusalOf r ≡ 0 → Passes a b tol l count start closing
-  pub complete : Passes a b tol l count start closing → check.refusalOf r ≡ 0
+  pub passes : verdict.refusalOf r ≡ 0 → Passes a b tol l count start closing
+  pub complete : Passes a b tol l count start closing → verdict.refusalOf r ≡ 0
   -- "At every point of a passing trace the exact squared gap is at most confusion² (1 + 2^-50)"
-  pub exact : check.refusalOf r ≡ 0 → ExactGaps a b tol l count
+  pub exact : verdict.refusalOf r ≡ 0 → ExactGaps a b tol l count
 
 -- whether the first `count` points of a list cross a box
 pub record CrossingPromise (tol : Tolerance) (l : List Float) (count : ℕ) (box : Aabb) (r : Crossed) : Type 0 where

@@ -8,8 +8,8 @@ use Rattle.refusal.specs.declared.Refusal.the-variants.{Parameter}
 use Rattle.refusal.specs.Refusal.{numberOf}
 use Rattle.patch.specs.declared.patch.Patch.{Patch}
 use Rattle.patch.specs.declared.patch.Parameters.{Parameters}
-use Rattle.patch.specs.declared.patch.Fitness.{Fitness}
-use Rattle.patch.specs.declared.patch.Fitness.the-variants.{Fit, Unfit}
+use Rattle.refusal.specs.declared.Verdict.{Verdict}
+use Rattle.refusal.specs.declared.Verdict.the-variants as verdict
 use Rattle.patch.specs.declared.point.Located.{Located}
 use Rattle.patch.specs.declared.point.Located.the-variants.{At, Refused}
 use Rattle.analytic.specs.Surface.{evalPoint}
@@ -29,9 +29,9 @@ abbrev pub pointB : Patch → Parameters → Point3D
 pointB b x = evalPoint (b .surface) (x .u2) (x .v2)
 
 -- 1 to 4 are the patch's; 6: "a guess or parameter that is not finite"
-abbrev pub afterFitness : Patch → Float → Float → Fitness → Located
-afterFitness p u v (Unfit r) = Refused r
-afterFitness p u v Fit = pick (finite u) (pick (finite v) (At (evalPoint (p .surface) u v)) (Refused Parameter)) (Refused Parameter)
+abbrev pub afterFitness : Patch → Float → Float → Verdict → Located
+afterFitness p u v (verdict.Refused r) = Refused r
+afterFitness p u v verdict.Passed = pick (finite u) (pick (finite v) (At (evalPoint (p .surface) u v)) (Refused Parameter)) (Refused Parameter)
 
 -- the public point: "Point: 1 to 4, then 6"
 unfoldable pub locatedOf : Patch → Float → Float → Located

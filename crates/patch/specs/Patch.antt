@@ -14,8 +14,8 @@ use Rattle.analytic.specs.declared.surface.Surface.the-variants.{Plane, Cylinde
 use Rattle.patch.specs.declared.patch.Window.{Window}
 use Rattle.patch.specs.declared.patch.Patch.{Patch}
 use Rattle.patch.specs.declared.patch.Parameters.{Parameters}
-use Rattle.patch.specs.declared.patch.Fitness.{Fitness}
-use Rattle.patch.specs.declared.patch.Fitness.the-variants.{Fit, Unfit}
+use Rattle.refusal.specs.declared.Verdict.{Verdict}
+use Rattle.refusal.specs.declared.Verdict.the-variants.{Passed, Refused}
 
 -- ---- 1: "a number of the frame or a size is not finite, or above 2^20 in magnitude"
 
@@ -88,19 +88,19 @@ unfoldable pub markFit : Bool → Bool → Bool
 markFit turn angle = pick turn angle true
 
 -- ---- "1 to 4", in that order
-unfoldable pub fitnessOf : Patch → Fitness
+unfoldable pub fitnessOf : Patch → Verdict
 fitnessOf p =
     pick (numbersFit (p .surface))
     (pick (sizesFit (p .surface))
     (pick (windowFit (p .u))
     (pick (windowFit (p .v))
     (pick (markFit (p .u .turn) (uIsAngle (p .surface)))
-    (pick (markFit (p .v .turn) (vIsAngle (p .surface))) Fit (Unfit TurnMark))
-    (Unfit TurnMark))
-    (Unfit Refusal.Window))
-    (Unfit Refusal.Window))
-    (Unfit Size))
-    (Unfit Number)
+    (pick (markFit (p .v .turn) (vIsAngle (p .surface))) Passed (Refused TurnMark))
+    (Refused TurnMark))
+    (Refused Refusal.Window))
+    (Refused Refusal.Window))
+    (Refused Size))
+    (Refused Number)
 
 -- ---- the windows that apply: "its window is tested by 3, then not applied"
 

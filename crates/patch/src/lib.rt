@@ -3,7 +3,6 @@
 pub mod patch;
 pub mod point;
 
-pub use patch::Fitness;
 pub use patch::Parameters;
 pub use patch::Patch;
 pub use patch::Window;

@@ -2,6 +2,7 @@ use analytic::Surface;
 use geometry::Frame3D;
 use geometry::Vector3D;
 use refusal::Refusal;
+use refusal::Verdict;
 ghost use mathlib.Core.Path.{_≡_};
 ghost use Rattle.patch.specs.Patch.{vectorFit, frameFit, oneFits, bothFit, bothPositive, coneFits, numbersFit, sizesFit, uIsAngle, vIsAngle, windowFit, markFit, fitnessOf, windowHolds, insideOf, boundedOf, withinBounds};
 
@@ -25,12 +26,6 @@ pub struct Parameters {
     pub v1: f64,
     pub u2: f64,
     pub v2: f64,
-}
-
-// What fitness finds of a patch.
-pub enum Fitness {
-    Fit,
-    Unfit(Refusal),
 }
 
 fn vector_fit(d: Vector3D) -> bool
@@ -202,31 +197,31 @@ impl Window {
 
 impl Patch {
     // Refusals 1 to 4, in that order.
-    pub fn fitness(self) -> Fitness
+    pub fn fitness(self) -> Verdict
         ensures { λ r. ⌜ r ≡ fitnessOf self ⌝ }
     {
         let surface = self.surface;
         let u = self.u;
         let v = self.v;
         if !numbers_fit(surface) {
-            return Fitness::Unfit(Refusal::Number);
+            return Verdict::Refused(Refusal::Number);
         }
         if !sizes_fit(surface) {
-            return Fitness::Unfit(Refusal::Size);
+            return Verdict::Refused(Refusal::Size);
         }
         if !u.is_fit() {
-            return Fitness::Unfit(Refusal::Window);
+            return Verdict::Refused(Refusal::Window);
         }
         if !v.is_fit() {
-            return Fitness::Unfit(Refusal::Window);
+            return Verdict::Refused(Refusal::Window);
         }
         if !mark_fit(u.turn, u_is_angle(surface)) {
-            return Fitness::Unfit(Refusal::TurnMark);
+            return Verdict::Refused(Refusal::TurnMark);
         }
         if !mark_fit(v.turn, v_is_angle(surface)) {
-            return Fitness::Unfit(Refusal::TurnMark);
+            return Verdict::Refused(Refusal::TurnMark);
         }
-        Fitness::Fit
+        Verdict::Passed
     }
 }
 

@@ -1,7 +1,7 @@
-use crate::patch::Fitness;
 use crate::patch::Patch;
 use geometry::Point3D;
 use refusal::Refusal;
+use refusal::Verdict;
 ghost use mathlib.Core.Path.{_≡_};
 ghost use Rattle.patch.specs.Located.{locatedOf};
 
@@ -17,8 +17,8 @@ pub fn point(patch: Patch, u: f64, v: f64) -> Located
 {
     let fitness = patch.fitness();
     match fitness {
-        Fitness::Unfit(refusal) => Located::Refused(refusal),
-        Fitness::Fit => {
+        Verdict::Refused(refusal) => Located::Refused(refusal),
+        Verdict::Passed => {
             if !number::is_finite(u) {
                 return Located::Refused(Refusal::Parameter);
             }

@@ -29,6 +29,12 @@ pub enum Refusal {
     JobFile,
 }
 
+// What tests say: all passed, or the first refusal.
+pub enum Verdict {
+    Passed,
+    Refused(Refusal),
+}
+
 impl Refusal {
     // Document 01's number.
     pub fn number(self) -> u64

@@ -17,25 +17,25 @@ use Rattle.geometry.specs.declared.tolerance.Tolerance.{Tolerance}
 use Rattle.geometry.specs.Tolerance.{toleranceFit}
 use Rattle.patch.specs.declared.patch.Patch.{Patch}
 use Rattle.patch.specs.declared.patch.Parameters.{Parameters}
-use Rattle.patch.specs.declared.patch.Fitness.{Fitness}
-use Rattle.patch.specs.declared.patch.Fitness.the-variants.{Fit, Unfit}
+use Rattle.refusal.specs.declared.Verdict.{Verdict}
+use Rattle.refusal.specs.declared.Verdict.the-variants.{Passed, Refused}
 use Rattle.patch.specs.Patch.{fitnessOf}
 use Rattle.walk.specs.Trace.{guessFinite, limitsOf, afterPatch, callFitness, room}
 
-abbrev fitSign : Fitness → ℕ
-fitSign Fit = 1
-fitSign (Unfit r) = 0
+abbrev fitSign : Verdict → ℕ
+fitSign Passed = 1
+fitSign (Refused r) = 0
 
-unfitting : {r : Refusal} → Unfit r ≡ Fit → ⊥
+unfitting : {r : Refusal} → Refused r ≡ Passed → ⊥
 unfitting e = let z : _≡_ {A = ℕ} 0 1 = ap fitSign e in omega arith
 
-patch-stages : (f g h : Fitness) → afterPatch f (afterPatch g h) ≡ Fit → (f ≡ Fit) × (g ≡ Fit) × (h ≡ Fit)
-patch-stages (Unfit r) g h e = absurd (unfitting e)
-patch-stages Fit (Unfit r) h e = absurd (unfitting e)
-patch-stages Fit Fit h e = (refl, refl, e)
+patch-stages : (f g h : Verdict) → afterPatch f (afterPatch g h) ≡ Passed → (f ≡ Passed) × (g ≡ Passed) × (h ≡ Passed)
+patch-stages (Refused r) g h e = absurd (unfitting e)
+patch-stages Passed (Refused r) h e = absurd (unfitting e)
+patch-stages Passed Passed h e = (refl, refl, e)
 
 limit-stages : (t g p q h : Bool)
-    → pick t (pick g (pick p (pick q (pick h Fit (Unfit refusal.Lent)) (Unfit refusal.StepCap)) (Unfit refusal.StepCap)) (Unfit refusal.Parameter)) (Unfit refusal.Tolerance) ≡ Fit
+    → pick t (pick g (pick p (pick q (pick h Passed (Refused refusal.Lent)) (Refused refusal.StepCap)) (Refused refusal.StepCap)) (Refused refusal.Parameter)) (Refused refusal.Tolerance) ≡ Passed
     → (t ≡ true) × (q ≡ true) × (h ≡ true)
 limit-stages false g p q h e = absurd (unfitting e)
 limit-stages true false p q h e = absurd (unfitting e)
@@ -44,7 +44,7 @@ limit-stages true true true false h e = absurd (unfitting e)
 limit-stages true true true true false e = absurd (unfitting e)
 limit-stages true true true true true e = (refl, refl, refl)
 
-limits-fit : (tol : Tolerance) (guess : Parameters) (n : ℕ) (l : List Float) → limitsOf tol guess n l ≡ Fit
+limits-fit : (tol : Tolerance) (guess : Parameters) (n : ℕ) (l : List Float) → limitsOf tol guess n l ≡ Passed
     → T (toleranceFit tol) × (n ≤ 2000) × (room n ≤ length l)
 unfolding limitsOf
 limits-fit tol guess n l e =
@@ -52,8 +52,8 @@ limits-fit tol guess n l e =
     (subst T (sym (s .0)) tt, leb-true n 2000 (s .1), holds-length width l (2 * n + 1) (s .2))
 
 -- both surfaces and the tolerance are fit, the step cap is at most 2000, and there is room for all points
-pub call-fit : (a b : Patch) (tol : Tolerance) (guess : Parameters) (n : ℕ) (l : List Float) → callFitness a b tol guess n l ≡ Fit
-    → (fitnessOf a ≡ Fit) × (fitnessOf b ≡ Fit) × T (toleranceFit tol) × (n ≤ 2000) × (room n ≤ length l)
+pub call-fit : (a b : Patch) (tol : Tolerance) (guess : Parameters) (n : ℕ) (l : List Float) → callFitness a b tol guess n l ≡ Passed
+    → (fitnessOf a ≡ Passed) × (fitnessOf b ≡ Passed) × T (toleranceFit tol) × (n ≤ 2000) × (room n ≤ length l)
 unfolding callFitness
 call-fit a b tol guess n l e =
     let s = patch-stages (fitnessOf a) (fitnessOf b) (limitsOf tol guess n l) e in

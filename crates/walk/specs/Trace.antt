@@ -16,8 +16,8 @@ use Rattle.geometry.specs.declared.tolerance.Tolerance.{Tolerance}
 use Rattle.geometry.specs.Tolerance.{toleranceFit}
 use Rattle.patch.specs.declared.patch.Patch.{Patch}
 use Rattle.patch.specs.declared.patch.Parameters.{Parameters}
-use Rattle.patch.specs.declared.patch.Fitness.{Fitness}
-use Rattle.patch.specs.declared.patch.Fitness.the-variants.{Fit, Unfit}
+use Rattle.refusal.specs.declared.Verdict.{Verdict}
+use Rattle.refusal.specs.declared.Verdict.the-variants as verdict
 use Rattle.patch.specs.Patch.{fitnessOf}
 use Rattle.meeting.specs.declared.newton.Met.{Met}
 use Rattle.meeting.specs.declared.newton.Met.the-variants as met
@@ -63,25 +63,25 @@ unfoldable pub guessFinite : Parameters → Bool
 guessFinite x = finite (x .u1) && (finite (x .v1) && (finite (x .u2) && finite (x .v2)))
 
 -- 5, 6, then 7: "step cap n outside 2 to 2000", then 8: "fewer than 7(2n+1) numbers lent"
-unfoldable pub limitsOf : Tolerance → Parameters → ℕ → List Float → Fitness
+unfoldable pub limitsOf : Tolerance → Parameters → ℕ → List Float → Verdict
 limitsOf tol guess n l =
     pick (toleranceFit tol)
     (pick (guessFinite guess)
     (pick (leb 2 n)
     (pick (leb n 2000)
-    (pick (holdsOf width l (2 * n + 1)) Fit (Unfit refusal.Lent))
-    (Unfit refusal.StepCap))
-    (Unfit refusal.StepCap))
-    (Unfit refusal.Parameter))
-    (Unfit refusal.Tolerance)
+    (pick (holdsOf width l (2 * n + 1)) verdict.Passed (verdict.Refused refusal.Lent))
+    (verdict.Refused refusal.StepCap))
+    (verdict.Refused refusal.StepCap))
+    (verdict.Refused refusal.Parameter))
+    (verdict.Refused refusal.Tolerance)
 
 -- a surface's refusal, or what is tested next
-abbrev pub afterPatch : Fitness → Fitness → Fitness
-afterPatch Fit next = next
-afterPatch (Unfit r) next = Unfit r
+abbrev pub afterPatch : Verdict → Verdict → Verdict
+afterPatch verdict.Passed next = next
+afterPatch (verdict.Refused r) next = verdict.Refused r
 
 -- "Trace: 1 to 4 for A, the same for B, then 5 to 11": those before 9
-unfoldable pub callFitness : Patch → Patch → Tolerance → Parameters → ℕ → List Float → Fitness
+unfoldable pub callFitness : Patch → Patch → Tolerance → Parameters → ℕ → List Float → Verdict
 callFitness a b tol guess n l = afterPatch (fitnessOf a) (afterPatch (fitnessOf b) (limitsOf tol guess n l))
 
 -- ---- the walk, in the first 7(2n+1) numbers
@@ -125,9 +125,9 @@ walkOf a b tol guess n = afterSeed a b tol n (meetOf a b guess tol)
 -- ---- the call: "refusals before 9 touch nothing"; "beyond that nothing changes"
 
 -- a refusal before 9, or what the walk answers and leaves
-abbrev pub afterCall : Patch → Patch → Tolerance → Parameters → ℕ → List Float → Fitness → Outcome
-afterCall a b tol guess n l (Unfit r) = record { answer = Refused r; buffer = l }
-afterCall a b tol guess n l Fit = record { answer = walkOf a b tol guess n .answer; buffer = walkOf a b tol guess n .buffer ++ drop (room n) l }
+abbrev pub afterCall : Patch → Patch → Tolerance → Parameters → ℕ → List Float → Verdict → Outcome
+afterCall a b tol guess n l (verdict.Refused r) = record { answer = Refused r; buffer = l }
+afterCall a b tol guess n l verdict.Passed = record { answer = walkOf a b tol guess n .answer; buffer = walkOf a b tol guess n .buffer ++ drop (room n) l }
 
 -- the call: its answer, and the whole buffer after it
 unfoldable pub traceOf : Patch → Patch → Tolerance → Parameters → ℕ → List Float → Outcome

@@ -8,10 +8,10 @@ use marching::Direction;
 use marching::tangent::tangent;
 use meeting::Met;
 use meeting::newton::meet;
-use patch::Fitness;
 use patch::Parameters;
 use patch::Patch;
 use refusal::Refusal;
+use refusal::Verdict;
 ghost use mathlib.Core.Path.{_≡_};
 ghost use Prim.Native.Nat.{_≤_};
 ghost use lib.ListN.{length};
@@ -42,25 +42,25 @@ fn guess_finite(x: Parameters) -> bool
 }
 
 // Refusals 5 to 8.
-fn limits(tol: Tolerance, guess: Parameters, cap: usize, buffer: &[f64]) -> Fitness
+fn limits(tol: Tolerance, guess: Parameters, cap: usize, buffer: &[f64]) -> Verdict
     ensures { λ r. ⌜ r ≡ limitsOf tol guess cap (now (buffer .entry)) ⌝ }
 {
     if !tol.is_fit() {
-        return Fitness::Unfit(Refusal::Tolerance);
+        return Verdict::Refused(Refusal::Tolerance);
     }
     if !guess_finite(guess) {
-        return Fitness::Unfit(Refusal::Parameter);
+        return Verdict::Refused(Refusal::Parameter);
     }
     if cap < LEAST_CAP {
-        return Fitness::Unfit(Refusal::StepCap);
+        return Verdict::Refused(Refusal::StepCap);
     }
     if GREATEST_CAP < cap {
-        return Fitness::Unfit(Refusal::StepCap);
+        return Verdict::Refused(Refusal::StepCap);
     }
     if !groups::holds(buffer, 2 * cap + 1) {
-        return Fitness::Unfit(Refusal::Lent);
+        return Verdict::Refused(Refusal::Lent);
     }
-    Fitness::Fit
+    Verdict::Passed
 }
 
 // Refusals 1 to 4 of A, the same of B, then 5 to 8.
@@ -71,17 +71,17 @@ fn call_fitness(
     guess: Parameters,
     cap: usize,
     buffer: &[f64],
-) -> Fitness
+) -> Verdict
     ensures { λ r. ⌜ r ≡ callFitness a b tol guess cap (now (buffer .entry)) ⌝ }
 {
     let first = a.fitness();
     match first {
-        Fitness::Unfit(of_a) => Fitness::Unfit(of_a),
-        Fitness::Fit => {
+        Verdict::Refused(of_a) => Verdict::Refused(of_a),
+        Verdict::Passed => {
             let second = b.fitness();
             match second {
-                Fitness::Unfit(of_b) => Fitness::Unfit(of_b),
-                Fitness::Fit => limits(tol, guess, cap, buffer),
+                Verdict::Refused(of_b) => Verdict::Refused(of_b),
+                Verdict::Passed => limits(tol, guess, cap, buffer),
             }
         }
     }
@@ -126,8 +126,8 @@ pub fn trace(
 {
     let fitness = call_fitness(a, b, tol, guess, cap, &*buffer);
     match fitness {
-        Fitness::Unfit(refusal) => Traced::Refused(refusal),
-        Fitness::Fit => {
+        Verdict::Refused(refusal) => Traced::Refused(refusal),
+        Verdict::Passed => {
             let room = WIDTH * (2 * cap + 1);
             walk_from(&mut buffer[..room], a, b, tol, guess, cap)
         }

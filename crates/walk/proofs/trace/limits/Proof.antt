@@ -10,36 +10,36 @@ use Rattle.refusal.specs.declared.Refusal.the-variants as refusal
 use Rattle.geometry.specs.declared.tolerance.Tolerance.{Tolerance}
 use Rattle.geometry.specs.Tolerance.{toleranceFit}
 use Rattle.patch.specs.declared.patch.Parameters.{Parameters}
-use Rattle.patch.specs.declared.patch.Fitness.the-variants.{Fit, Unfit}
+use Rattle.refusal.specs.declared.Verdict.the-variants.{Passed, Refused}
 use Rattle.walk.specs.Trace.{guessFinite, limitsOf}
 use Rattle.walk.proofs.trace.limits.Statement.{statement}
 use Rattle.walk.proofs.trace.limits.Tie as tie
 
 module _ (tol : Tolerance) (guess : Parameters) (n : ℕ) (l : List Float) where
-  five : toleranceFit tol ≡ false → Unfit refusal.Tolerance ≡ limitsOf tol guess n l
+  five : toleranceFit tol ≡ false → Refused refusal.Tolerance ≡ limitsOf tol guess n l
   unfolding limitsOf
   five t = rw t
 
   module _ (t : toleranceFit tol ≡ true) where
-    six : guessFinite guess ≡ false → Unfit refusal.Parameter ≡ limitsOf tol guess n l
+    six : guessFinite guess ≡ false → Refused refusal.Parameter ≡ limitsOf tol guess n l
     unfolding limitsOf
     six g = rw (t, g)
 
     module _ (g : guessFinite guess ≡ true) where
-      seven-below : n < 2 → Unfit refusal.StepCap ≡ limitsOf tol guess n l
+      seven-below : n < 2 → Refused refusal.StepCap ≡ limitsOf tol guess n l
       unfolding limitsOf
       seven-below h = rw (t, g, lt-leb 2 n h)
 
       module _ (least : 2 ≤ n) where
-        seven-above : 2000 < n → Unfit refusal.StepCap ≡ limitsOf tol guess n l
+        seven-above : 2000 < n → Refused refusal.StepCap ≡ limitsOf tol guess n l
         unfolding limitsOf
         seven-above h = rw (t, g, le-leb 2 n least, lt-leb n 2000 h)
 
-        eight : n ≤ 2000 → holdsOf width l (2 * n + 1) ≡ false → Unfit refusal.Lent ≡ limitsOf tol guess n l
+        eight : n ≤ 2000 → holdsOf width l (2 * n + 1) ≡ false → Refused refusal.Lent ≡ limitsOf tol guess n l
         unfolding limitsOf
         eight h e = rw (t, g, le-leb 2 n least, le-leb n 2000 h, e)
 
-        fit : n ≤ 2000 → holdsOf width l (2 * n + 1) ≡ true → Fit ≡ limitsOf tol guess n l
+        fit : n ≤ 2000 → holdsOf width l (2 * n + 1) ≡ true → Passed ≡ limitsOf tol guess n l
         unfolding limitsOf
         fit h e = rw (t, g, le-leb 2 n least, le-leb n 2000 h, e)
 
