@@ -14,9 +14,11 @@ fn put_line(answer: Traced, line: &mut [u8; LINE]) -> usize
     ensures { λ r. ⌜ (r ≡ length (answerLine answer)) × (now (line .exit) ≡ written (answerLine answer) (now (line .entry))) ⌝ }
 {
     match answer {
-        Traced::Line(count, start, code) => {
-            crate::line::trace_line(count as u64, start as u64, code as u64, line)
-        }
+        Traced::Line {
+            count,
+            start,
+            closing,
+        } => { crate::line::trace_line(count as u64, start as u64, closing as u64, line) }
         Traced::Refused(refusal) => crate::line::refused_line(refusal.number(), line),
     }
 }

@@ -110,7 +110,11 @@ fn traced_word(answer: Traced) -> u64
     ensures { λ r. ⌜ r ≡ tracedWord answer ⌝ }
 {
     match answer {
-        Traced::Line(count, start, code) => line_word(count, start, code),
+        Traced::Line {
+            count,
+            start,
+            closing,
+        } => line_word(count, start, closing),
         Traced::Refused(refusal) => refusal.number(),
     }
 }

@@ -45,7 +45,11 @@ fn finish(points: &mut [f64], count: usize, start: usize, closing: usize) -> Tra
         return Traced::Refused(Refusal::TooShort);
     }
     clear(&mut *points, WIDTH * count);
-    Traced::Line(count, start, closing)
+    Traced::Line {
+        count,
+        start,
+        closing,
+    }
 }
 
 // The closing code of a line that did not close forward: 2 where its backward half closed.

@@ -1,0 +1,38 @@
+-- The first refusal of a list of tests: passed exactly when every test is.
+use mathlib.Core.Path.{_≡_, refl, ap}
+use mathlib.Core.Bool.{Bool, true, false}
+use mathlib.Core.List.{List, [], _∷_}
+use Prim.Native.Nat.{ℕ}
+use native.Mathlib.Omega.{arith}
+use Rattle.refusal.specs.declared.Refusal.{Refusal}
+use Rattle.refusal.specs.declared.Verdict.{Verdict}
+use Rattle.refusal.specs.declared.Verdict.the-variants.{Passed, Refused}
+use Rattle.refusal.specs.Verdict.{asked, firstRefusal, AllPassed}
+
+abbrev sign : Verdict → ℕ
+sign Passed = 1
+sign (Refused r) = 0
+
+-- a refusal is no pass
+pub unpassed : {r : Refusal} → Refused r ≡ Passed → ⊥
+unpassed e = let z : _≡_ {A = ℕ} 0 1 = ap sign e in omega arith
+
+-- a test that passes held
+pub asked-held : (t : Bool) (r : Refusal) → asked t r ≡ Passed → t ≡ true
+asked-held true r e = refl
+asked-held false r e = absurd (unpassed e)
+
+pub held-asked : (t : Bool) (r : Refusal) → t ≡ true → asked t r ≡ Passed
+held-asked t r e = rw e
+
+-- where the first refusal is none, every test passed
+pub first-passed : (l : List Verdict) → firstRefusal l ≡ Passed → AllPassed l
+first-passed [] e = tt
+first-passed (Passed ∷ rest) e = (refl, first-passed rest e)
+first-passed (Refused r ∷ rest) e = absurd (unpassed e)
+
+-- and back
+pub passed-first : (l : List Verdict) → AllPassed l → firstRefusal l ≡ Passed
+passed-first [] h = refl
+passed-first (Passed ∷ rest) h = passed-first rest (h .1)
+passed-first (Refused r ∷ rest) h = absurd (unpassed (h .0))
