@@ -6,7 +6,7 @@ use Rattle.fdlibm.specs.Sine.{sinOf, cosOf}
 use Rattle.geometry.specs.declared.vector.Vector3D.{Vector3D}
 use Rattle.geometry.specs.declared.frame.Frame3D.{Frame3D}
 use Rattle.geometry.specs.Vector.{addOf, scaleOf}
-use Rattle.geometry.proofs.Vector.{times-scale}
+use Rattle.geometry.proofs.Scaled.{times-scale}
 use Rattle.analytic.specs.declared.analytic.Derivatives.{Derivatives}
 use Rattle.analytic.specs.Analytic.{coneRadius, torusRadius, cylinderDerivatives, coneDerivatives, sphereDerivatives, torusDerivatives}
 

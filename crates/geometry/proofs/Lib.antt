@@ -1,1 +1,1 @@
-pub mod Vector
+pub mod Scaled

@@ -27,3 +27,39 @@ is-fit-requires c κs = search needs
 returns : tie.Need-returns
 unfolding pairFitness
 returns c = rw (← c .before .before .before .fitness .ensures, c .before .first .given .1)
+
+returns-2 : tie.Need-returns-2
+unfolding pairFitness
+returns-2 c =
+    let d = c .before .before .before in
+    rw (← d .before .before .before .fitness .ensures, d .before .enum-told .given .1, ← d .fitness2 .ensures, c .before .second .given .1)
+
+returns-3 : tie.Need-returns-3
+unfolding pairFitness
+returns-3 c =
+    let e = c .before .before in
+    let d = e .before .before in
+    rw (← d .before .before .before .fitness .ensures, d .before .enum-told .given .1, ← d .fitness2 .ensures, e .enum-told2 .given .1, ← c .before .is-fit .ensures, c .if1 .taken)
+
+returns-4 : tie.Need-returns-4
+unfolding pairFitness
+returns-4 c =
+    let e = c .before .before in
+    let d = e .before .before in
+    rw (← d .before .before .before .fitness .ensures, d .before .enum-told .given .1, ← d .fitness2 .ensures, e .enum-told2 .given .1, ← c .before .is-fit .ensures, c .if1 .left)
+
+pub pair-fitness-spec : {M : Type 1} → statement M
+pair-fitness-spec =
+    tie.close
+    (tie.spec
+    fitness-requires
+    enum-known-first
+    enum-told
+    fitness-requires-2
+    enum-known-second
+    enum-told-2
+    is-fit-requires
+    returns
+    returns-2
+    returns-3
+    returns-4)

@@ -1,7 +1,7 @@
 use mathlib.Core.Path.{ap, _∙_}
 use borrow.Author.Needs.{needs}
 use Rattle.solve.specs.declared.cramer.Solved2.the-variants.{Solution}
-use Rattle.solve.proofs.Cramer.{at-determinant}
+use Rattle.solve.proofs.GivesUp.{at-determinant}
 use Rattle.solve.proofs.cramer.solve_2x2.Statement.{statement}
 use Rattle.solve.proofs.cramer.solve_2x2.Tie as tie
 
