@@ -10,7 +10,7 @@ use lib.ListN.{length, take, drop, replicate, length-append, length-drop, length
 use lib.Seq.{take-at, drop-at, length-take-le, take-append-le, drop-append-le, take-append-add, take-length, take-add}
 use Rattle.loops.specs.Loop.{pick}
 use Rattle.groups.specs.Row.{numbersOf}
-use Rattle.groups.specs.Row as row
+use Rattle.number.specs.Helpers.{positiveZero}
 use Rattle.groups.specs.declared.row.Row.{Row}
 use Rattle.geometry.specs.declared.vector.Vector3D.{Vector3D}
 use Rattle.geometry.specs.declared.tolerance.Tolerance.{Tolerance}
@@ -43,8 +43,8 @@ pub part-length : (a : ℕ) (l : List Float) → a ≤ length l → length (take
 part-length a l h = let e = length-drop a l in length-take-le (length l - a) (drop a l) (omega (arith, e))
 
 -- zeros all over
-pub cleared : (l : List Float) → take 0 l ++ replicate (length l - 0) row.zero ≡ replicate (length l) row.zero
-cleared l = ap (λ (k : ℕ). replicate k row.zero) (let e : length l - 0 ≡ length l = omega arith in e)
+pub cleared : (l : List Float) → take 0 l ++ replicate (length l - 0) positiveZero ≡ replicate (length l) positiveZero
+cleared l = ap (λ (k : ℕ). replicate k positiveZero) (let e : length l - 0 ≡ length l = omega arith in e)
 
 -- ---- turning round
 

@@ -68,7 +68,7 @@ same-length-2 c = search needs
 returns-2 : tie.Need-returns-2
 unfolding traceOf
 returns-2 c =
-    (rw (← c .before .before .before .before .before .before .call-fitness .ensures, c .before .before .before .before .enum-told .given .1) (c .before .before .walk_from .ensures .0), rw (← c .before .before .before .before .before .before .call-fitness .ensures, c .before .before .before .before .enum-told .given .1) (ap (λ (l : List Float). l ++ drop (room (c .before .before .before .before .before .before .before .before .before .args .cap)) (now (c .before .before .before .before .before .before .before .before .before .args .buffer))) (c .before .before .walk_from .ensures .1)))
+    (rw (← c .before .before .before .before .before .before .call-fitness .ensures, c .before .before .before .before .enum-told .given .1) (c .before .before .walk-from .ensures .0), rw (← c .before .before .before .before .before .before .call-fitness .ensures, c .before .before .before .before .enum-told .given .1) (ap (λ (l : List Float). l ++ drop (room (c .before .before .before .before .before .before .before .before .before .args .cap)) (now (c .before .before .before .before .before .before .before .before .before .args .buffer))) (c .before .before .walk-from .ensures .1)))
 
 pub trace-spec : {M : Type 1} → statement M
 trace-spec =
