@@ -1,4 +1,4 @@
 pub mod Probe
 pub mod Call
 pub mod Surface
-pub mod Marching
+pub mod Steps

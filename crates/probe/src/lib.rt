@@ -3,7 +3,7 @@
 //! The solvers: the input holds the matrix row by row, the right side and tol; a solution goes to the front of the output.
 //! The answer: 1 solved, 0 gave up, 9 a slice too short. Where it is not 1 the output is as it was.
 pub mod call;
-pub mod marching;
+pub mod steps;
 pub mod surface;
 
 ghost use mathlib.Core.Path.{_≡_};

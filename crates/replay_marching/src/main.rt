@@ -15,7 +15,7 @@ fn same(words: &[u8]) -> bool
     replay::load(&words[16..], &mut numbers);
     let step = replay::word(words, 0);
     let pin = replay::word(words, 8);
-    let said = probe::marching::probe_step(step, pin, &numbers, &mut output);
+    let said = probe::steps::probe_step(step, pin, &numbers, &mut output);
     if said != replay::word(words, 448) {
         return false;
     }

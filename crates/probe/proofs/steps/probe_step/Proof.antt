@@ -1,9 +1,9 @@
 -- Each step has its function.
 use borrow.Author.Tests.{eq-eqb, ne-eqb}
 use borrow.Author.Needs.{needs}
-use Rattle.probe.specs.Marching.{probeStep}
-use Rattle.probe.proofs.marching.probe_step.Statement.{statement}
-use Rattle.probe.proofs.marching.probe_step.Tie as tie
+use Rattle.probe.specs.Steps.{probeStep}
+use Rattle.probe.proofs.steps.probe_step.Statement.{statement}
+use Rattle.probe.proofs.steps.probe_step.Tie as tie
 
 probe-tangent-requires : tie.Need-probe-tangent-requires
 probe-tangent-requires c κs = search needs

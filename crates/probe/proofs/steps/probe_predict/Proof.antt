@@ -1,8 +1,8 @@
 use borrow.Author.Tests.{le-ltb, lt-ltb}
 use borrow.Author.Needs.{needs}
-use Rattle.probe.specs.Marching.{probePredict}
-use Rattle.probe.proofs.marching.probe_predict.Statement.{statement}
-use Rattle.probe.proofs.marching.probe_predict.Tie as tie
+use Rattle.probe.specs.Steps.{probePredict}
+use Rattle.probe.proofs.steps.probe_predict.Statement.{statement}
+use Rattle.probe.proofs.steps.probe_predict.Tie as tie
 
 returns : tie.Need-returns
 unfolding probePredict

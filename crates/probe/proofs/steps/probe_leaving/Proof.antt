@@ -1,8 +1,8 @@
 use borrow.Author.Tests.{le-ltb, lt-ltb}
 use borrow.Author.Needs.{needs}
-use Rattle.probe.specs.Marching.{probeLeaving}
-use Rattle.probe.proofs.marching.probe_leaving.Statement.{statement}
-use Rattle.probe.proofs.marching.probe_leaving.Tie as tie
+use Rattle.probe.specs.Steps.{probeLeaving}
+use Rattle.probe.proofs.steps.probe_leaving.Statement.{statement}
+use Rattle.probe.proofs.steps.probe_leaving.Tie as tie
 
 returns : tie.Need-returns
 unfolding probeLeaving

@@ -1,8 +1,8 @@
 use borrow.Author.Tests.{le-ltb, lt-ltb}
 use borrow.Author.Needs.{needs}
-use Rattle.probe.specs.Marching.{probeMeetInPlane}
-use Rattle.probe.proofs.marching.probe_meet_in_plane.Statement.{statement}
-use Rattle.probe.proofs.marching.probe_meet_in_plane.Tie as tie
+use Rattle.probe.specs.Steps.{probeMeetInPlane}
+use Rattle.probe.proofs.steps.probe_meet_in_plane.Statement.{statement}
+use Rattle.probe.proofs.steps.probe_meet_in_plane.Tie as tie
 
 returns : tie.Need-returns
 unfolding probeMeetInPlane

@@ -1,8 +1,8 @@
 use borrow.Author.Tests.{le-ltb, lt-ltb}
 use borrow.Author.Needs.{needs}
-use Rattle.probe.specs.Marching.{probeLand}
-use Rattle.probe.proofs.marching.probe_land.Statement.{statement}
-use Rattle.probe.proofs.marching.probe_land.Tie as tie
+use Rattle.probe.specs.Steps.{probeLand}
+use Rattle.probe.proofs.steps.probe_land.Statement.{statement}
+use Rattle.probe.proofs.steps.probe_land.Tie as tie
 
 returns : tie.Need-returns
 unfolding probeLand

@@ -1,8 +1,8 @@
 use borrow.Author.Tests.{le-ltb, lt-ltb}
 use borrow.Author.Needs.{needs}
-use Rattle.probe.specs.Marching.{probeTangent}
-use Rattle.probe.proofs.marching.probe_tangent.Statement.{statement}
-use Rattle.probe.proofs.marching.probe_tangent.Tie as tie
+use Rattle.probe.specs.Steps.{probeTangent}
+use Rattle.probe.proofs.steps.probe_tangent.Statement.{statement}
+use Rattle.probe.proofs.steps.probe_tangent.Tie as tie
 
 returns : tie.Need-returns
 unfolding probeTangent

@@ -1,8 +1,8 @@
 use borrow.Author.Tests.{le-ltb, lt-ltb}
 use borrow.Author.Needs.{needs}
-use Rattle.probe.specs.Marching.{probeMeet}
-use Rattle.probe.proofs.marching.probe_meet.Statement.{statement}
-use Rattle.probe.proofs.marching.probe_meet.Tie as tie
+use Rattle.probe.specs.Steps.{probeMeet}
+use Rattle.probe.proofs.steps.probe_meet.Statement.{statement}
+use Rattle.probe.proofs.steps.probe_meet.Tie as tie
 
 returns : tie.Need-returns
 unfolding probeMeet

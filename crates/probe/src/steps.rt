@@ -13,7 +13,7 @@ use marching::Exit;
 use meeting::Met;
 ghost use mathlib.Core.Path.{_≡_};
 ghost use Rattle.probe.specs.Probe.{probed};
-ghost use Rattle.probe.specs.Marching.{probeTangent, probePredict, probeLeaving, probeMeet, probeMeetInPlane, probeLand, probeStep};
+ghost use Rattle.probe.specs.Steps.{probeTangent, probePredict, probeLeaving, probeMeet, probeMeetInPlane, probeLand, probeStep};
 
 // 1 and the direction, or 0.
 fn probe_tangent(input: &[f64], output: &mut [f64]) -> u64
