@@ -9,6 +9,9 @@ pub struct Tolerance {
     pub parametric: f64,
 }
 
+// 2^-40.
+const LEAST_CONFUSION: f64 = 9.094947017729282e-13;
+
 impl Tolerance {
     pub const DEFAULT: Tolerance = Tolerance {
         confusion: 1e-7,
@@ -27,7 +30,7 @@ impl Tolerance {
     pub fn is_fit(self) -> bool
         ensures { λ r. ⌜ r ≡ toleranceFit self ⌝ }
     {
-        if 9.094947017729282e-13 <= self.confusion {
+        if LEAST_CONFUSION <= self.confusion {
             if self.confusion <= 1.0 {
                 if 0.0 <= self.angular {
                     self.angular <= 1.0

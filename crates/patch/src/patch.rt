@@ -93,11 +93,14 @@ fn both_positive(a: f64, b: f64) -> bool
     if 0.0 < a { 0.0 < b } else { false }
 }
 
+// A cone's semi-angle stays below it in magnitude.
+const SEMI_ANGLE_LIMIT: f64 = 1.5;
+
 fn cone_fits(r: f64, a: f64) -> bool
     ensures { λ k. ⌜ k ≡ coneFits r a ⌝ }
 {
     if 0.0 <= r {
-        number::abs(a) < 1.5
+        number::abs(a) < SEMI_ANGLE_LIMIT
     } else {
         false
     }
