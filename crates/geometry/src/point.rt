@@ -62,14 +62,6 @@ impl Point3D {
     pub fn is_fit(self) -> bool
         ensures { λ r. ⌜ r ≡ pointFit self ⌝ }
     {
-        if number::number_fit(self.x) {
-            if number::number_fit(self.y) {
-                number::number_fit(self.z)
-            } else {
-                false
-            }
-        } else {
-            false
-        }
+        number::number_fit(self.x) && (number::number_fit(self.y) && number::number_fit(self.z))
     }
 }
