@@ -1,2 +1,1 @@
-pub mod Analytic
 pub mod Surface

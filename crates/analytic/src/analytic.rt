@@ -1,10 +1,11 @@
-// Points (`*_d0`) and both first derivatives (`*_derivatives`) of the five kinds, in the Rust's order of evaluation.
+// Points (`*_d0`) and both first derivatives (`*_derivatives`) of the kinds, in the Rust's order of evaluation.
 // The Rust works out one derivative a call; here one set of sines and cosines serves both.
 use geometry::Frame3D;
 use geometry::Point3D;
 use geometry::Vector3D;
 ghost use mathlib.Core.Path.{_≡_};
-ghost use Rattle.analytic.specs.Analytic.{planeD0, cylinderD0, coneD0, sphereD0, torusD0, planeDerivatives, cylinderDerivatives, coneDerivatives, sphereDerivatives, torusDerivatives};
+ghost use Rattle.analytic.specs.declared.surface.Surface.the-variants.{Plane, Cylinder, Cone, Sphere, Torus};
+ghost use Rattle.analytic.specs.Surface.{evalPoint, alongOf, evalD1};
 
 // The derivatives by u and by v.
 pub struct Derivatives {
@@ -12,23 +13,21 @@ pub struct Derivatives {
     pub v: Vector3D,
 }
 
+// a * p + b * q.
+fn along(a: f64, p: Vector3D, b: f64, q: Vector3D) -> Vector3D
+    ensures { λ r. ⌜ r ≡ alongOf a p b q ⌝ }
+{
+    p.scale(a).add(q.scale(b))
+}
+
 pub(crate) fn plane_d0(frame: Frame3D, u: f64, v: f64) -> Point3D
-    ensures { λ r. ⌜ r ≡ planeD0 frame u v ⌝ }
+    ensures { λ r. ⌜ r ≡ evalPoint (Plane frame) u v ⌝ }
 {
     frame.point_at(u, v, 0.0)
 }
 
-pub(crate) fn plane_derivatives(frame: Frame3D) -> Derivatives
-    ensures { λ r. ⌜ r ≡ planeDerivatives frame ⌝ }
-{
-    Derivatives {
-        u: frame.x_direction(),
-        v: frame.y_direction(),
-    }
-}
-
 pub(crate) fn cylinder_d0(frame: Frame3D, r: f64, u: f64, v: f64) -> Point3D
-    ensures { λ p. ⌜ p ≡ cylinderD0 frame r u v ⌝ }
+    ensures { λ p. ⌜ p ≡ evalPoint (Cylinder frame r) u v ⌝ }
 {
     let mut cu = 0.0;
     let su = fdlibm::sin_cos(u, &mut cu);
@@ -37,23 +36,23 @@ pub(crate) fn cylinder_d0(frame: Frame3D, r: f64, u: f64, v: f64) -> Point3D
     frame.point_at(a1, a2, v)
 }
 
-pub(crate) fn cylinder_derivatives(frame: Frame3D, r: f64, u: f64) -> Derivatives
-    ensures { λ d. ⌜ d ≡ cylinderDerivatives frame r u ⌝ }
+// v is not read, as in the Rust.
+pub(crate) fn cylinder_derivatives(frame: Frame3D, r: f64, u: f64, v: f64) -> Derivatives
+    ensures { λ d. ⌜ d ≡ evalD1 (Cylinder frame r) u v ⌝ }
 {
     let mut cu = 0.0;
     let su = fdlibm::sin_cos(u, &mut cu);
     let a1 = r * cu;
     let a2 = r * su;
-    let x = frame.x_direction();
-    let y = frame.y_direction();
+    let z = frame.z;
     Derivatives {
-        u: x.scale(-a2).add(y.scale(a1)),
-        v: frame.z_direction(),
+        u: along(-a2, frame.x, a1, frame.y),
+        v: z,
     }
 }
 
 pub(crate) fn cone_d0(frame: Frame3D, ref_r: f64, semi_angle: f64, u: f64, v: f64) -> Point3D
-    ensures { λ p. ⌜ p ≡ coneD0 frame «ref_r» «semi_angle» u v ⌝ }
+    ensures { λ p. ⌜ p ≡ evalPoint (Cone frame «ref_r» «semi_angle») u v ⌝ }
 {
     let mut ca = 0.0;
     let sa = fdlibm::sin_cos(semi_angle, &mut ca);
@@ -70,24 +69,21 @@ pub(crate) fn cone_derivatives(
     u: f64,
     v: f64,
 ) -> Derivatives
-    ensures { λ d. ⌜ d ≡ coneDerivatives frame «ref_r» «semi_angle» u v ⌝ }
+    ensures { λ d. ⌜ d ≡ evalD1 (Cone frame «ref_r» «semi_angle») u v ⌝ }
 {
     let mut ca = 0.0;
     let sa = fdlibm::sin_cos(semi_angle, &mut ca);
     let mut cu = 0.0;
     let su = fdlibm::sin_cos(u, &mut cu);
     let r = ref_r + v * sa;
-    let x = frame.x_direction();
-    let y = frame.y_direction();
-    let z = frame.z_direction();
     Derivatives {
-        u: x.scale(-r * su).add(y.scale(r * cu)),
-        v: x.scale(cu).add(y.scale(su)).scale(sa).add(z.scale(ca)),
+        u: along(-r * su, frame.x, r * cu, frame.y),
+        v: along(sa, along(cu, frame.x, su, frame.y), ca, frame.z),
     }
 }
 
 pub(crate) fn sphere_d0(frame: Frame3D, r: f64, u: f64, v: f64) -> Point3D
-    ensures { λ p. ⌜ p ≡ sphereD0 frame r u v ⌝ }
+    ensures { λ p. ⌜ p ≡ evalPoint (Sphere frame r) u v ⌝ }
 {
     let mut cv = 0.0;
     let sv = fdlibm::sin_cos(v, &mut cv);
@@ -98,27 +94,21 @@ pub(crate) fn sphere_d0(frame: Frame3D, r: f64, u: f64, v: f64) -> Point3D
 }
 
 pub(crate) fn sphere_derivatives(frame: Frame3D, r: f64, u: f64, v: f64) -> Derivatives
-    ensures { λ d. ⌜ d ≡ sphereDerivatives frame r u v ⌝ }
+    ensures { λ d. ⌜ d ≡ evalD1 (Sphere frame r) u v ⌝ }
 {
     let mut cv = 0.0;
     let sv = fdlibm::sin_cos(v, &mut cv);
     let mut cu = 0.0;
     let su = fdlibm::sin_cos(u, &mut cu);
-    let x = frame.x_direction();
-    let y = frame.y_direction();
-    let z = frame.z_direction();
     let rcv = r * cv;
     Derivatives {
-        u: x.scale(-su).add(y.scale(cu)).scale(rcv),
-        v: x.scale(cu)
-            .add(y.scale(su))
-            .scale(-r * sv)
-            .add(z.scale(rcv)),
+        u: along(-su, frame.x, cu, frame.y).scale(rcv),
+        v: along(-r * sv, along(cu, frame.x, su, frame.y), rcv, frame.z),
     }
 }
 
 pub(crate) fn torus_d0(frame: Frame3D, maj: f64, min: f64, u: f64, v: f64) -> Point3D
-    ensures { λ p. ⌜ p ≡ torusD0 frame maj min u v ⌝ }
+    ensures { λ p. ⌜ p ≡ evalPoint (Torus frame maj min) u v ⌝ }
 {
     let mut cv = 0.0;
     let sv = fdlibm::sin_cos(v, &mut cv);
@@ -129,21 +119,20 @@ pub(crate) fn torus_d0(frame: Frame3D, maj: f64, min: f64, u: f64, v: f64) -> Po
 }
 
 pub(crate) fn torus_derivatives(frame: Frame3D, maj: f64, min: f64, u: f64, v: f64) -> Derivatives
-    ensures { λ d. ⌜ d ≡ torusDerivatives frame maj min u v ⌝ }
+    ensures { λ d. ⌜ d ≡ evalD1 (Torus frame maj min) u v ⌝ }
 {
     let mut cv = 0.0;
     let sv = fdlibm::sin_cos(v, &mut cv);
     let mut cu = 0.0;
     let su = fdlibm::sin_cos(u, &mut cu);
-    let x = frame.x_direction();
-    let y = frame.y_direction();
-    let z = frame.z_direction();
     let r = maj + min * cv;
     Derivatives {
-        u: x.scale(-su).add(y.scale(cu)).scale(r),
-        v: x.scale(cu)
-            .add(y.scale(su))
-            .scale(-min * sv)
-            .add(z.scale(min * cv)),
+        u: along(-su, frame.x, cu, frame.y).scale(r),
+        v: along(
+            -min * sv,
+            along(cu, frame.x, su, frame.y),
+            min * cv,
+            frame.z,
+        ),
     }
 }

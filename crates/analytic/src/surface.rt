@@ -36,8 +36,12 @@ impl Surface {
         ensures { λ r. ⌜ r ≡ evalD1 self u v ⌝ }
     {
         match self {
-            Surface::Plane(frame) => crate::analytic::plane_derivatives(frame),
-            Surface::Cylinder(frame, r) => crate::analytic::cylinder_derivatives(frame, r, u),
+            Surface::Plane(frame) => {
+                let u = frame.x;
+                let v = frame.y;
+                Derivatives { u, v }
+            }
+            Surface::Cylinder(frame, r) => crate::analytic::cylinder_derivatives(frame, r, u, v),
             Surface::Cone(frame, r, a) => crate::analytic::cone_derivatives(frame, r, a, u, v),
             Surface::Sphere(frame, r) => crate::analytic::sphere_derivatives(frame, r, u, v),
             Surface::Torus(frame, maj, min) => crate::analytic::torus_derivatives(

@@ -5,7 +5,6 @@ use Rattle.sqrt.specs.Sqrt.{sqrtOf}
 use Rattle.geometry.specs.Vector.{vectorOf, zeroVector, scaleOf}
 use Rattle.geometry.specs.Point.{pointOf, addVectorOf}
 use Rattle.geometry.specs.Frame.{pointAtOf}
-use Rattle.analytic.specs.Analytic.{planeD0, cylinderD0}
 use Rattle.analytic.specs.Surface.{evalPoint}
 use Rattle.fdlibm.proofs.Examples as fdlibm
 use Rattle.solve.proofs.Computing as solve
@@ -21,7 +20,7 @@ use Rattle.walk.specs.Trace.{guessFinite, limitsOf, callFitness, walkOf, traceO
 use Rattle.examples.specs.Table.{Table}
 
 pub table : Table
-unfolding evalPoint planeD0 cylinderD0 pointAtOf addVectorOf scaleOf pointOf vectorOf zeroVector fdlibm.computing solve.computing boxes.computing leavingOf firstExit considerOf lesserOf meeting.computing normalOf unitCross tangentOf fitnessOf numbersFit sizesFit windowFit markFit uIsAngle vIsAngle frameFit vectorFit pointFit numberFit defaultTolerance toleranceFit guessFinite limitsOf callFitness walkOf traceOf sqrtOf toBits ofBits
+unfolding evalPoint pointAtOf addVectorOf scaleOf pointOf vectorOf zeroVector fdlibm.computing solve.computing boxes.computing leavingOf firstExit considerOf lesserOf meeting.computing normalOf unitCross tangentOf fitnessOf numbersFit sizesFit windowFit markFit uIsAngle vIsAngle frameFit vectorFit pointFit numberFit defaultTolerance toleranceFit guessFinite limitsOf callFitness walkOf traceOf sqrtOf toBits ofBits
 table =
     record {
       row1 = refl;

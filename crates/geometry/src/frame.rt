@@ -12,24 +12,6 @@ pub struct Frame3D {
 }
 
 impl Frame3D {
-    pub fn x_direction(self) -> Vector3D
-        ensures { λ r. ⌜ r ≡ self .x ⌝ }
-    {
-        self.x
-    }
-
-    pub fn y_direction(self) -> Vector3D
-        ensures { λ r. ⌜ r ≡ self .y ⌝ }
-    {
-        self.y
-    }
-
-    pub fn z_direction(self) -> Vector3D
-        ensures { λ r. ⌜ r ≡ self .z ⌝ }
-    {
-        self.z
-    }
-
     // origin + x * a + y * b + z * c, added from left to right.
     pub fn point_at(self, a: f64, b: f64, c: f64) -> Point3D
         ensures { λ r. ⌜ r ≡ pointAtOf self a b c ⌝ }

@@ -2,7 +2,7 @@
 //! methods here: `add` is `+`, `neg` the unary `-`, and `scale` is `*` by a number, on either side.
 ghost use mathlib.Core.Path.{_≡_};
 ghost use Rattle.number.specs.Operators.{_≤?_};
-ghost use Rattle.geometry.specs.Vector.{zeroVector, vectorOf, dotOf, crossOf, magnitudeOf, squareMagnitudeOf, addOf, negOf, scaleOf};
+ghost use Rattle.geometry.specs.Vector.{vectorOf, dotOf, crossOf, magnitudeOf, squareMagnitudeOf, addOf, negOf, scaleOf};
 
 pub struct Vector3D {
     pub x: f64,
@@ -16,13 +16,6 @@ impl Vector3D {
         y: 0.0,
         z: 0.0,
     };
-
-    // The constant as a value, so that its contract says what it holds.
-    pub fn zero() -> Vector3D
-        ensures { λ r. ⌜ r ≡ zeroVector ⌝ }
-    {
-        Vector3D::ZERO
-    }
 
     pub fn new(x: f64, y: f64, z: f64) -> Vector3D
         ensures { λ r. ⌜ r ≡ vectorOf x y z ⌝ }

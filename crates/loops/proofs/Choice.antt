@@ -15,6 +15,6 @@ pick-left x e h = rw e h
 pub and-taken : {a b r s : Bool} → r ≡ a → r ≡ true → s ≡ b → s ≡ a && b
 and-taken p e h = rw (← p, e) h
 
--- and false, where the first part fails
-pub and-left : {a r : Bool} (b : Bool) → r ≡ a → r ≡ false → false ≡ a && b
+-- and its first part, where that fails
+pub and-left : {a r : Bool} (b : Bool) → r ≡ a → r ≡ false → r ≡ a && b
 and-left b p e = rw (← p, e)

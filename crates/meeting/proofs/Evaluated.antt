@@ -10,7 +10,6 @@ use Rattle.geometry.specs.Vector.{vectorOf, zeroVector, dotOf, crossOf, squareM
 use Rattle.geometry.specs.Point.{pointOf, differenceOf, addVectorOf}
 use Rattle.geometry.specs.Frame.{pointAtOf}
 use Rattle.analytic.specs.declared.surface.Surface.the-variants.{Plane}
-use Rattle.analytic.specs.Analytic.{planeD0, planeDerivatives}
 use Rattle.analytic.specs.Surface.{evalPoint, evalD1}
 use Rattle.patch.specs.declared.patch.Patch.{Patch}
 use Rattle.patch.specs.declared.patch.Window.{Window}
@@ -23,7 +22,7 @@ use Rattle.meeting.specs.Newton.{nearOf, trialsOf, lastTest, newtonRound
 
 -- opens what an evaluation of a meeting of planes needs
 unfoldable pub computing : Unit {0}
-unfolding meetOf newtonOf newtonRound lastTest trialsOf nearOf shiftedOf correctionOf freeCorrection normalMatrix dot4Of columnsOf residualOf offsetOf withinBounds boundedOf windowHolds insideOf evalPoint evalD1 planeD0 planeDerivatives pointAtOf differenceOf addVectorOf pointOf scaleOf negOf magnitudeOf squareMagnitudeOf crossOf dotOf vectorOf zeroVector defaultTolerance sqrtOf solve.computing Ieee.neg
+unfolding meetOf newtonOf newtonRound lastTest trialsOf nearOf shiftedOf correctionOf freeCorrection normalMatrix dot4Of columnsOf residualOf offsetOf withinBounds boundedOf windowHolds insideOf evalPoint evalD1 pointAtOf differenceOf addVectorOf pointOf scaleOf negOf magnitudeOf squareMagnitudeOf crossOf dotOf vectorOf zeroVector defaultTolerance sqrtOf solve.computing Ieee.neg
 computing = tt
 
 abbrev window : Window

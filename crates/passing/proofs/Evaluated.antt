@@ -20,7 +20,6 @@ use Rattle.geometry.specs.Vector.{vectorOf, scaleOf}
 use Rattle.geometry.specs.Point.{pointOf, distanceOf, addVectorOf, pointFit}
 use Rattle.geometry.specs.Frame.{pointAtOf}
 use Rattle.analytic.specs.declared.surface.Surface.the-variants.{Plane}
-use Rattle.analytic.specs.Analytic.{planeD0}
 use Rattle.analytic.specs.Surface.{evalPoint}
 use Rattle.patch.specs.declared.patch.Patch.{Patch}
 use Rattle.patch.specs.declared.patch.Window.{Window}
@@ -34,7 +33,7 @@ use Rattle.certificate.proofs.Passed.{checked-passes}
 
 -- opens what a check of planes needs
 unfoldable pub computing : Unit {0}
-unfolding checkOf claimAnswer claimSo closingSo sameRow pointsAnswer answerAt chordFits pointAnswer ownOf samePoint finitePoint sameBits absOf holdsOf rowOf exits toleranceFit fitnessOf numbersFit sizesFit windowFit markFit uIsAngle vIsAngle frameFit vectorFit pointFit numberFit insideOf windowHolds evalPoint planeD0 pointAtOf addVectorOf scaleOf pointOf vectorOf distanceOf sqrtOf Ieee.isNan Ieee.toBits Ieee.ofBits Ieee.add Ieee.sub Ieee.mul Ieee.div Ieee.lt Ieee.le Ieee.eq
+unfolding checkOf claimAnswer claimSo closingSo sameRow pointsAnswer answerAt chordFits pointAnswer ownOf samePoint finitePoint sameBits absOf holdsOf rowOf exits toleranceFit fitnessOf numbersFit sizesFit windowFit markFit uIsAngle vIsAngle frameFit vectorFit pointFit numberFit insideOf windowHolds evalPoint pointAtOf addVectorOf scaleOf pointOf vectorOf distanceOf sqrtOf Ieee.isNan Ieee.toBits Ieee.ofBits Ieee.add Ieee.sub Ieee.mul Ieee.div Ieee.lt Ieee.le Ieee.eq
 computing = tt
 
 -- ---- two planes that meet in the x axis, B raised by h; windows -1 to 1, no marks; confusion 2^-20

@@ -49,9 +49,13 @@ numbersFit (Torus f maj min) = bothFit f maj min
 unfoldable pub bothPositive : Float → Float → Bool
 bothPositive a b = bits 0 <? a && bits 0 <? b
 
+-- "1.5"
+abbrev pub semiAngleLimit : Float
+semiAngleLimit = bits 0x3FF8_0000_0000_0000
+
 -- "Cone reference radius: 0 or more; its semi-angle: magnitude below 1.5"
 unfoldable pub coneFits : Float → Float → Bool
-coneFits r a = bits 0 ≤? r && absOf a <? bits 0x3FF8_0000_0000_0000
+coneFits r a = bits 0 ≤? r && absOf a <? semiAngleLimit
 
 -- what 2 lets through, for each kind: "Cylinder and sphere radius, both torus radii: above 0"
 unfoldable pub sizesFit : Surface → Bool

@@ -31,76 +31,43 @@ pub struct Parameters {
 fn vector_fit(d: Vector3D) -> bool
     ensures { λ r. ⌜ r ≡ vectorFit d ⌝ }
 {
-    if number::number_fit(d.x) {
-        if number::number_fit(d.y) {
-            number::number_fit(d.z)
-        } else {
-            false
-        }
-    } else {
-        false
-    }
+    number::number_fit(d.x) && (number::number_fit(d.y) && number::number_fit(d.z))
 }
 
 fn frame_fit(f: Frame3D) -> bool
     ensures { λ r. ⌜ r ≡ frameFit f ⌝ }
 {
     let origin = f.origin;
-    if origin.is_fit() {
-        if vector_fit(f.x) {
-            if vector_fit(f.y) {
-                vector_fit(f.z)
-            } else {
-                false
-            }
-        } else {
-            false
-        }
-    } else {
-        false
-    }
+    origin.is_fit() && (vector_fit(f.x) && (vector_fit(f.y) && vector_fit(f.z)))
 }
 
 // Two sizes beside a frame.
 fn both_fit(f: Frame3D, a: f64, b: f64) -> bool
     ensures { λ r. ⌜ r ≡ bothFit f a b ⌝ }
 {
-    if frame_fit(f) {
-        if number::number_fit(a) {
-            number::number_fit(b)
-        } else {
-            false
-        }
-    } else {
-        false
-    }
+    frame_fit(f) && (number::number_fit(a) && number::number_fit(b))
 }
 
 // One size beside a frame.
 fn one_fits(f: Frame3D, a: f64) -> bool
     ensures { λ r. ⌜ r ≡ oneFits f a ⌝ }
 {
-    if frame_fit(f) {
-        number::number_fit(a)
-    } else {
-        false
-    }
+    frame_fit(f) && number::number_fit(a)
 }
 
 fn both_positive(a: f64, b: f64) -> bool
     ensures { λ r. ⌜ r ≡ bothPositive a b ⌝ }
 {
-    if 0.0 < a { 0.0 < b } else { false }
+    0.0 < a && 0.0 < b
 }
+
+// A cone's semi-angle stays below it in magnitude.
+const SEMI_ANGLE_LIMIT: f64 = 1.5;
 
 fn cone_fits(r: f64, a: f64) -> bool
     ensures { λ k. ⌜ k ≡ coneFits r a ⌝ }
 {
-    if 0.0 <= r {
-        number::abs(a) < 1.5
-    } else {
-        false
-    }
+    0.0 <= r && number::abs(a) < SEMI_ANGLE_LIMIT
 }
 
 // Refusal 1 lets the numbers of the frame and the sizes through.
@@ -176,10 +143,8 @@ impl Window {
     {
         if self.turn {
             true
-        } else if self.low <= x {
-            x <= self.high
         } else {
-            false
+            self.low <= x && x <= self.high
         }
     }
 
@@ -233,16 +198,7 @@ pub fn inside(a: Patch, b: Patch, x: Parameters) -> bool
     let v1 = a.v;
     let u2 = b.u;
     let v2 = b.v;
-    if !u1.holds(x.u1) {
-        return false;
-    }
-    if !v1.holds(x.v1) {
-        return false;
-    }
-    if !u2.holds(x.u2) {
-        return false;
-    }
-    v2.holds(x.v2)
+    u1.holds(x.u1) && (v1.holds(x.v1) && (u2.holds(x.u2) && v2.holds(x.v2)))
 }
 
 // The parameters, each clamped to its window where that applies: the Rust's `within_bounds`.

@@ -1,5 +1,5 @@
 use borrow.Author.Needs.{needs}
-use Rattle.analytic.specs.Analytic.{planeD0}
+use Rattle.analytic.specs.Surface.{evalPoint}
 use Rattle.analytic.proofs.analytic.plane_d0.Statement.{statement}
 use Rattle.analytic.proofs.analytic.plane_d0.Tie as tie
 
@@ -7,7 +7,7 @@ point-at-requires : tie.Need-point-at-requires
 point-at-requires c κs = search needs
 
 returns : tie.Need-returns
-unfolding planeD0
+unfolding evalPoint
 returns c = rw (c .point-at .ensures)
 
 pub plane-d0-spec : {M : Type 1} → statement M

@@ -6,9 +6,6 @@ use Rattle.analytic.proofs.surface.Surface.eval_d1.Tie as tie
 enum-known-self : tie.Need-enum-known-self
 enum-known-self c = search needs
 
-plane-derivatives-requires : tie.Need-plane-derivatives-requires
-plane-derivatives-requires c κs = search needs
-
 enum-known-self-2 : tie.Need-enum-known-self-2
 enum-known-self-2 c = search needs
 
@@ -35,23 +32,19 @@ torus-derivatives-requires c κs = search needs
 
 returns : tie.Need-returns
 unfolding evalD1
-returns c = rw (c .plane-derivatives .ensures, c .before .before .self .given .1)
+returns c = rw (c .before .before .before .self .given .1)
 
 returns-2 : tie.Need-returns-2
-unfolding evalD1
-returns-2 c = rw (c .cylinder-derivatives .ensures, c .before .before .self2 .given .1)
+returns-2 c = rw (c .before .before .self2 .given .1) (c .cylinder-derivatives .ensures)
 
 returns-3 : tie.Need-returns-3
-unfolding evalD1
-returns-3 c = rw (c .cone-derivatives .ensures, c .before .before .self3 .given .1)
+returns-3 c = rw (c .before .before .self3 .given .1) (c .cone-derivatives .ensures)
 
 returns-4 : tie.Need-returns-4
-unfolding evalD1
-returns-4 c = rw (c .sphere-derivatives .ensures, c .before .before .self4 .given .1)
+returns-4 c = rw (c .before .before .self4 .given .1) (c .sphere-derivatives .ensures)
 
 returns-5 : tie.Need-returns-5
-unfolding evalD1
-returns-5 c = rw (c .torus-derivatives .ensures, c .before .before .self5 .given .1)
+returns-5 c = rw (c .before .before .self5 .given .1) (c .torus-derivatives .ensures)
 
 pub eval-d1-spec : {M : Type 1} → statement M
-eval-d1-spec = tie.close (tie.spec enum-known-self plane-derivatives-requires enum-known-self-2 cylinder-derivatives-requires enum-known-self-3 cone-derivatives-requires enum-known-self-4 sphere-derivatives-requires enum-known-self-5 torus-derivatives-requires returns returns-2 returns-3 returns-4 returns-5)
+eval-d1-spec = tie.close (tie.spec enum-known-self enum-known-self-2 cylinder-derivatives-requires enum-known-self-3 cone-derivatives-requires enum-known-self-4 sphere-derivatives-requires enum-known-self-5 torus-derivatives-requires returns returns-2 returns-3 returns-4 returns-5)

@@ -23,7 +23,10 @@ add-requires-3 c κs = search needs
 
 returns : tie.Need-returns
 unfolding pointAtOf
-returns c = rw (c .add3 .ensures, c .before .scale3 .ensures, c .before .before .add2 .ensures, c .before .before .before .scale2 .ensures, c .before .before .before .before .add .ensures, c .before .before .before .before .before .scale .ensures)
+returns c =
+    let c3 = c .before .before in
+    let c2 = c3 .before .before in
+    rw (c .add3 .ensures, c .before .scale3 .ensures, c3 .add2 .ensures, c3 .before .scale2 .ensures, c2 .add .ensures, c2 .before .scale .ensures)
 
 pub point-at-spec : {M : Type 1} → statement M
 point-at-spec = tie.close (tie.spec scale-requires add-requires scale-requires-2 add-requires-2 scale-requires-3 add-requires-3 returns)
