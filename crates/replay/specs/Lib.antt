@@ -1,2 +1,3 @@
-pub mod Word
+pub mod Words
 pub mod Tally
+pub mod Marked

@@ -3,16 +3,12 @@ use Prim.Native.Nat.{_+_, _%_, _^_}
 use mathlib.Core.Bool.{Bool, true, false}
 use lib.Dec.{eqb}
 use Rattle.loops.specs.Loop.{pick}
-use Rattle.replay.specs.declared.Tally.{Tally}
+use Rattle.replay.specs.declared.tally.Tally.{Tally}
 
 -- one record more; the first that differs keeps its place in the list
 abbrev pub countedOf : Tally → Bool → Tally
-countedOf t true = record { more = t .more; compared = (t .compared + 1) % 2 ^ 64; differ = t .differ; first = t .first }
+countedOf t true = record { compared = (t .compared + 1) % 2 ^ 64; differ = t .differ; first = t .first }
 countedOf t false =
     pick (eqb (t .differ) 0)
-    (record { more = t .more; compared = (t .compared + 1) % 2 ^ 64; differ = 1; first = t .compared })
-    (record { more = t .more; compared = (t .compared + 1) % 2 ^ 64; differ = (t .differ + 1) % 2 ^ 64; first = t .first })
-
--- the list is at its end
-abbrev pub endedOf : Tally → Tally
-endedOf t = record { more = false; compared = t .compared; differ = t .differ; first = t .first }
+    (record { compared = (t .compared + 1) % 2 ^ 64; differ = 1; first = t .compared })
+    (record { compared = (t .compared + 1) % 2 ^ 64; differ = (t .differ + 1) % 2 ^ 64; first = t .first })

@@ -1,0 +1,9 @@
+use mathlib.Core.Path.{refl}
+use Rattle.replay.proofs.tally.none.Statement.{statement}
+use Rattle.replay.proofs.tally.none.Tie as tie
+
+returns : tie.Need-returns
+returns c = refl
+
+pub none-spec : {M : Type 1} → statement M
+none-spec = tie.close (tie.spec returns)
