@@ -5,7 +5,7 @@ use mathlib.Core.Logic.{_⊎_, inl, inr}
 use Prim.Native.Nat.{ℕ, zero, suc, _+_, _-_, _*_, _/_, _≤_, _<_, zero-le}
 use native.Mathlib.Nat.{le-refl, le-trans, le-antisymm, mul-comm, mul-right-comm, mul-assoc, mul-le-mul-right, le-of-mul-le-mul-right, mul-pos, zero-mul, zero-div, suc-mul, add-comm, div-mul-le-self, le-div-iff-mul-le, le-of-eq}
 use native.Mathlib.Omega.{arith}
-use mathlib.Core.Bool.{Bool, true, false, not, _&&_, _||_, and-true}
+use mathlib.Core.Bool.{Bool, true, false, not, _&&_, _||_, and-true, cond}
 use lib.IntN.{ℤ}
 use lib.Signed.{leZ, _≤ℤ_, leZ-yes}
 use lib.Dec.{T, leb→le, le→leb, ltb, eqb, ltb→lt, nltb→le, eqb→eq, lit<}
@@ -16,6 +16,7 @@ use lib.Ieee.Fits.{down-pos, eq→eqb}
 use lib.Ieee.Scale.{finite, round-same}
 use lib.Ieee.Order.{round-mono}
 use Rattle.number.specs.Operators.{_<?_, _≤?_}
+use Rattle.number.specs.Helpers.{minOf}
 use Rattle.number.specs.Units.{unitsInOne, mag, neg?, signed, inUnits}
 use Rattle.number.proofs.Values.{Is, whole, both-ways}
 use Rattle.number.proofs.Symmetry.{round-neg}
@@ -321,6 +322,28 @@ lt-le-through x y z p q = not-le→lt x z (lt-numbers x y p .0) (le-numbers y z 
 
 pub le-lt-through : (x y z : Float) → T (x ≤? y) → T (y <? z) → T (x <? z)
 le-lt-through x y z p q = not-le→lt x z (le-numbers x y p .0) (lt-numbers y z q .1) (λ t. lt→not-le y z q (le-through z x y t p))
+
+-- ---- a minimum is at most each of the two, where that one is no NaN
+
+pub min-left : (a b : Float) → T (not (isNan a)) → T (minOf a b ≤? a)
+unfolding minOf
+min-left a b h = go (isNan a) (isNan b) (b <? a) refl (lt→le b a)
+  where
+    go : (m n l : Bool) → isNan a ≡ m → (T l → T (b ≤? a)) → T (cond m b (cond n a (cond l b a)) ≤? a)
+    go true n l p f = absurd (subst (λ (t : Bool). T (not t)) p h)
+    go false true l p f = le-self a h
+    go false false true p f = f tt
+    go false false false p f = le-self a h
+
+pub min-right : (a b : Float) → T (not (isNan b)) → T (minOf a b ≤? b)
+unfolding minOf
+min-right a b h = go (isNan a) (isNan b) (b <? a) refl refl refl
+  where
+    go : (m n l : Bool) → isNan a ≡ m → isNan b ≡ n → (b <? a) ≡ l → T (cond m b (cond n a (cond l b a)) ≤? b)
+    go true n l p q s = le-self b h
+    go false true l p q s = absurd (subst (λ (t : Bool). T (not t)) q h)
+    go false false true p q s = le-self b h
+    go false false false p q s = not-lt→le b a h (subst (λ (t : Bool). T (not t)) (sym p) tt) (λ t. subst T s t)
 
 -- ---- the order of finite numbers is that of their whole numbers of units
 
