@@ -124,11 +124,13 @@ module _ (x : Float) (f : T (fits binary64 x)) (h : highWord x ≤ 0x413921fb) w
   sin-finite =
       under-finite
       (pick-is (Under 650) (leb (highWord x) 0x3fe921fb) (kernel-sin-under x (bits 0) (lift 44 tt x-under) zero-under false)
-      (pick-is (Under 650) (leb 0x7ff00000 (highWord x)) (lift 650 tt (minus 21 tt tt tt x-under x-under)) (in-reach-is (Under 650) LeftOf sinAt sin-at-under (λ e. absurd e) (remPio2 x) (rem-under x h x-under))))
+      (pick-is (Under 650) (leb 0x7ff00000 (highWord x)) (lift 650 tt (minus 21 tt tt tt x-under x-under))
+      (in-reach-is (Under 650) LeftOf sinAt sin-at-under (λ e. absurd e) (remPio2 x) (rem-under x h x-under))))
 
   pub cos-finite : T (finite (cosOf x))
   unfolding cosOf
   cos-finite =
       under-finite
       (pick-is (Under 650) (leb (highWord x) 0x3fe921fb) (kernel-cos-under x (bits 0) (lift 44 tt x-under) zero-under)
-      (pick-is (Under 650) (leb 0x7ff00000 (highWord x)) (lift 650 tt (minus 21 tt tt tt x-under x-under)) (in-reach-is (Under 650) LeftOf cosAt cos-at-under (λ e. absurd e) (remPio2 x) (rem-under x h x-under))))
+      (pick-is (Under 650) (leb 0x7ff00000 (highWord x)) (lift 650 tt (minus 21 tt tt tt x-under x-under))
+      (in-reach-is (Under 650) LeftOf cosAt cos-at-under (λ e. absurd e) (remPio2 x) (rem-under x h x-under))))

@@ -28,8 +28,9 @@ half-is = (refl, refl)
 -- a product of n units of units that binary64 holds as k units is exact
 round-product : (s : Bool) (n k : ℕ) → n ≡ k * unitsInOne → Held k → k < 2 ^ 2098 → Is (round binary64 s n (unitsInOne * unitsInOne)) s k
 round-product s n k e h top =
-    subst (λ (x : Float). Is x s k) (sym (round-same binary64 s n (unitsInOne * unitsInOne) k unitsInOne (mul-pos (pow-pos 1074) (pow-pos 1074)) (pow-pos 1074) (ap (λ (x : ℕ). x * unitsInOne) e ∙ mul-assoc k unitsInOne unitsInOne)))
-    (round-held s k h top)
+    let q = ap (λ (x : ℕ). x * unitsInOne) e ∙ mul-assoc k unitsInOne unitsInOne in
+    let r = round-same binary64 s n (unitsInOne * unitsInOne) k unitsInOne (mul-pos (pow-pos 1074) (pow-pos 1074)) (pow-pos 1074) q in
+    subst (λ (x : Float). Is x s k) (sym r) (round-held s k h top)
 
 -- ---- a tenth of c is at most c, whatever c's format, and so what is at most a tenth of c is at most c
 
@@ -101,7 +102,10 @@ module _ (x : Float) (f : T (fits binary64 x)) (h : T (finite x)) where
       let m = multiple (mag x) 1 (held x f h) big in
       let k = m .0 in
       let e : mag x ≡ k * 2 = m .1 in
-      (k, e, subst (λ (y : Float). Is y (neg? x) k) (sym halved) (round-product (neg? x) (mag x * 2 ^ 1073) k (ap (λ (y : ℕ). y * 2 ^ 1073) e ∙ mul-assoc k 2 (2 ^ 1073)) (half-held (mag x) k (held x f h) big e) (lt-of-le-of-lt (let y = e in omega arith) (below-top x (neg? x) (mag x) f (whole x f h)))))
+      let q = ap (λ (y : ℕ). y * 2 ^ 1073) e ∙ mul-assoc k 2 (2 ^ 1073) in
+      let top : k < 2 ^ 2098 = lt-of-le-of-lt (let y = e in omega arith) (below-top x (neg? x) (mag x) f (whole x f h)) in
+      let r = round-product (neg? x) (mag x * 2 ^ 1073) k q (half-held (mag x) k (held x f h) big e) top in
+      (k, e, subst (λ (y : Float). Is y (neg? x) k) (sym halved) r)
     where
       half-held : (a k : ℕ) → Held a → 2 ^ 53 ≤ a → a ≡ k * 2 → Held k
       half-held a k (p, zero, l, e) b q = absurd (let y = mul-one p in omega arith)

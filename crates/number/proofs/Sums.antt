@@ -91,15 +91,29 @@ summed true false a b = go (ltb a b) (ltb b a) (ltb→lt a b) (nltb→le a b) (l
     as-minus : signed true a +ℤ signed false b ≡ subℕ b a
     as-minus = +ℤ-comm (signed true a) (pos b) ∙ minus b a
 
+    rest : Bool → Float
+    rest k = round binary64 (true && k) (a - b) unitsInOne
+
+    chosen : Bool → Float
+    chosen k = cond k (round binary64 false (b - a) unitsInOne) (rest (ltb b a))
+
     go : (l g : Bool) → (T l → a < b) → (T (not l) → b ≤ a) → (T g → b < a) → (T (not g) → a ≤ b) → ltb a b ≡ l → ltb b a ≡ g → Summed true a false b
-    go true g p q r u e f = record { sign = false; size = b - a; is = ap (λ (k : Bool). cond k (round binary64 false (b - a) unitsInOne) (round binary64 (true && ltb b a) (a - b) unitsInOne)) e; exact = sym (as-minus ∙ more b a (let x = p tt in omega arith)) }
-    go false true p q r u e f = record { sign = true; size = a - b; is = ap (λ (k : Bool). cond k (round binary64 false (b - a) unitsInOne) (round binary64 (true && ltb b a) (a - b) unitsInOne)) e ∙ ap (λ (k : Bool). round binary64 (true && k) (a - b) unitsInOne) f; exact = sym (as-minus ∙ less b a (r tt)) }
-    go false false p q r u e f = record { sign = false; size = a - b; is = ap (λ (k : Bool). cond k (round binary64 false (b - a) unitsInOne) (round binary64 (true && ltb b a) (a - b) unitsInOne)) e ∙ ap (λ (k : Bool). round binary64 (true && k) (a - b) unitsInOne) f; exact = sym (as-minus ∙ more b a (u tt) ∙ ap pos (let x = q tt in let y = u tt in omega arith)) }
+    go true g p q r u e f = record { sign = false; size = b - a; is = ap chosen e; exact = sym (as-minus ∙ more b a (let x = p tt in omega arith)) }
+    go false true p q r u e f = record { sign = true; size = a - b; is = ap chosen e ∙ ap rest f; exact = sym (as-minus ∙ less b a (r tt)) }
+    go false false p q r u e f = record {
+      sign = false;
+      size = a - b;
+      is = ap chosen e ∙ ap rest f;
+      exact = sym (as-minus ∙ more b a (u tt) ∙ ap pos (let x = q tt in let y = u tt in omega arith));
+    }
 summed false true a b = go (ltb a b) (ltb→lt a b) (nltb→le a b) refl
   where
+    chosen : Bool → Float
+    chosen k = cond k (round binary64 true (b - a) unitsInOne) (round binary64 false (a - b) unitsInOne)
+
     go : (l : Bool) → (T l → a < b) → (T (not l) → b ≤ a) → ltb a b ≡ l → Summed false a true b
-    go true p q e = record { sign = true; size = b - a; is = ap (λ (k : Bool). cond k (round binary64 true (b - a) unitsInOne) (round binary64 false (a - b) unitsInOne)) e; exact = sym (minus a b ∙ less a b (p tt)) }
-    go false p q e = record { sign = false; size = a - b; is = ap (λ (k : Bool). cond k (round binary64 true (b - a) unitsInOne) (round binary64 false (a - b) unitsInOne)) e; exact = sym (minus a b ∙ more a b (q tt)) }
+    go true p q e = record { sign = true; size = b - a; is = ap chosen e; exact = sym (minus a b ∙ less a b (p tt)) }
+    go false p q e = record { sign = false; size = a - b; is = ap chosen e; exact = sym (minus a b ∙ more a b (q tt)) }
 
 -- the value of a rounded ±n units, where it is finite
 pub round-units : (s : Bool) (n : ℕ) → T (finite (round binary64 s n unitsInOne)) → inUnits (round binary64 s n unitsInOne) ≡ signed s (grid binary64 n unitsInOne)
@@ -127,10 +141,13 @@ module _ (x y : Float) (fx : T (fits binary64 x)) (fy : T (fits binary64 y)) (h 
   -- a sum is one part in 2 ^ 53 or less from the exact one: nothing is lost to underflow
   pub sum-error : natAbs (inUnits (x ⊕ y) -ℤ (inUnits x +ℤ inUnits y)) * 2 ^ 53 ≤ natAbs (inUnits x +ℤ inUnits y)
   sum-error =
+      let s = plus .sign in
+      let n = plus .size in
+      let g = grid binary64 n unitsInOne in
       subst (λ (z : ℤ). natAbs (inUnits (x ⊕ y) -ℤ z) * 2 ^ 53 ≤ natAbs z) (plus .exact)
-      (subst (λ (v : ℤ). natAbs (v -ℤ signed (plus .sign) (plus .size)) * 2 ^ 53 ≤ natAbs (signed (plus .sign) (plus .size)))
-      (sym (ap inUnits as-round ∙ round-units (plus .sign) (plus .size) (subst (λ (v : Float). T (finite v)) as-round h)))
-      (le-trans (close (plus .sign) (grid binary64 (plus .size) unitsInOne) (plus .size) 0 (spare (grid binary64 (plus .size) unitsInOne) (plus .size) (error-whole (plus .size) unitsInOne (pow-pos 1074)))) (le-of-eq (add-zero (natAbs (signed (plus .sign) (plus .size)))))))
+      (subst (λ (v : ℤ). natAbs (v -ℤ signed s n) * 2 ^ 53 ≤ natAbs (signed s n))
+      (sym (ap inUnits as-round ∙ round-units s n (subst (λ (v : Float). T (finite v)) as-round h)))
+      (le-trans (close s g n 0 (spare g n (error-whole n unitsInOne (pow-pos 1074)))) (le-of-eq (add-zero (natAbs (signed s n))))))
     where
       spare : (g n : ℕ) → Within (g * 2 ^ 53) (n * 2 ^ 53) n → Within (g * 2 ^ 53) (n * 2 ^ 53) (n + 0)
       spare g n w = (omega (arith, w .0), omega (arith, w .1))

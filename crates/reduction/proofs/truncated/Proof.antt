@@ -39,7 +39,10 @@ returns-3 : tie.Need-returns-3
 returns-3 c = sym (whole-part (c .before .before .before .args .x) (held (c .before .before .before)) (c .before .if2 .left) (c .if3 .taken))
 
 returns-4 : tie.Need-returns-4
-returns-4 c = sym (most-part (c .before .before .before .before .args .x) (held (c .before .before .before .before)) (no-nan (c .before .before .before .before .args .x) (c .before .before .before .if1 .left)) (c .before .if3 .left) (c .if4 .taken))
+returns-4 c =
+    let i1 = c .before .before .before in
+    let s = i1 .before in
+    sym (most-part (s .args .x) (held s) (no-nan (s .args .x) (i1 .if1 .left)) (c .before .if3 .left) (c .if4 .taken))
 
 returns-5 : tie.Need-returns-5
 returns-5 c = sym (negative-part (c .before .before .before .before .args .x) (held (c .before .before .before .before)) (c .if4 .left))
