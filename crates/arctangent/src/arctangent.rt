@@ -1,7 +1,7 @@
 //! The parts of the arc tangent, s_atan.c, and of the arc tangent of two arguments, e_atan2.c.
 ghost use mathlib.Core.Path.{_≡_};
 ghost use Prim.Native.Nat.{_^_, _<_};
-ghost use Rattle.fdlibm.specs.Arctangent.{seriesOf, farOf, placedOf, foldedOf, bySigns, onAxis, upright, farAlong, quotientOf, aroundOf};
+ghost use Rattle.arctangent.specs.Arctangent.{seriesOf, farOf, fromKnown, foldedOf, bySigns, onAxis, upright, farAlong, quotientOf, aroundOf, angleOf};
 
 const ATANHI_0: f64 = 4.63647609000806093515e-01;
 
@@ -80,8 +80,8 @@ pub(crate) fn atan_far(x: f64, sign: u64) -> f64
 }
 
 // The arc tangent of the number whose arc tangent is hi + lo, and of what lies beyond it by x.
-fn placed(hi: f64, lo: f64, x: f64) -> f64
-    ensures { λ r. ⌜ r ≡ placedOf hi lo x ⌝ }
+fn from_known(hi: f64, lo: f64, x: f64) -> f64
+    ensures { λ r. ⌜ r ≡ fromKnown hi lo x ⌝ }
 {
     hi - ((x * atan_series(x) - lo) - x)
 }
@@ -91,18 +91,18 @@ pub(crate) fn atan_folded(t: f64, ix: u64) -> f64
     ensures { λ r. ⌜ r ≡ foldedOf t ix ⌝ }
 {
     if ix < 0x3fe6_0000 {
-        placed(ATANHI_0, ATANLO_0, (2.0 * t - 1.0) / (2.0 + t))
+        from_known(ATANHI_0, ATANLO_0, (2.0 * t - 1.0) / (2.0 + t))
     } else if ix < 0x3ff3_0000 {
-        placed(ATANHI_1, ATANLO_1, (t - 1.0) / (t + 1.0))
+        from_known(ATANHI_1, ATANLO_1, (t - 1.0) / (t + 1.0))
     } else if ix < 0x4003_8000 {
-        placed(ATANHI_2, ATANLO_2, (t - 1.5) / (1.0 + 1.5 * t))
+        from_known(ATANHI_2, ATANLO_2, (t - 1.5) / (1.0 + 1.5 * t))
     } else {
-        placed(ATANHI_3, ATANLO_3, MINUS_ONE / t)
+        from_known(ATANHI_3, ATANLO_3, MINUS_ONE / t)
     }
 }
 
 // The C's switch on m, which is the sign of y with twice the sign of x.
-pub(crate) fn by_signs(m: u64, a: f64, b: f64, c: f64, d: f64) -> f64
+fn by_signs(m: u64, a: f64, b: f64, c: f64, d: f64) -> f64
     ensures { λ r. ⌜ r ≡ bySigns m a b c d ⌝ }
 {
     match m {
@@ -114,14 +114,14 @@ pub(crate) fn by_signs(m: u64, a: f64, b: f64, c: f64, d: f64) -> f64
 }
 
 // Where y is a zero.
-pub(crate) fn on_axis(y: f64, m: u64) -> f64
+fn on_axis(y: f64, m: u64) -> f64
     ensures { λ r. ⌜ r ≡ onAxis y m ⌝ }
 {
     by_signs(m, y, y, PI + TINY, -PI - TINY)
 }
 
 // Where x is a zero, or y infinite: a right angle.
-pub(crate) fn upright(y_sign: u64) -> f64
+fn upright(y_sign: u64) -> f64
     ensures { λ r. ⌜ r ≡ upright «y_sign» ⌝ }
 {
     if y_sign == 0 {
@@ -132,7 +132,7 @@ pub(crate) fn upright(y_sign: u64) -> f64
 }
 
 // Where x is infinite.
-pub(crate) fn far_along(iy: u64, m: u64) -> f64
+fn far_along(iy: u64, m: u64) -> f64
     ensures { λ r. ⌜ r ≡ farAlong iy m ⌝ }
 {
     if iy == 0x7ff0_0000 {
@@ -149,24 +149,46 @@ pub(crate) fn far_along(iy: u64, m: u64) -> f64
 }
 
 // The arc tangent of |y / x|, of which a quotient above 2^60 needs no series, nor one below 2^-60 where x is negative.
-pub(crate) fn quotient(y: f64, x: f64, x_sign: u64, iy: u64, ix: u64) -> f64
+fn quotient(y: f64, x: f64, x_sign: u64, iy: u64, ix: u64) -> f64
     requires { ⌜ (iy < 2 ^ 32) × (ix < 2 ^ 32) ⌝ }
     ensures { λ r. ⌜ r ≡ quotientOf y x «x_sign» iy ix ⌝ }
 {
     if ix + 0x03d0_0000 <= iy {
         return PI_O_2 + 0.5 * PI_LO;
     }
-    if x_sign == 1 {
-        if iy + 0x03c0_0000 < ix {
-            return 0.0;
-        }
+    if x_sign == 1 && iy + 0x03c0_0000 < ix {
+        return 0.0;
     }
     crate::atan(number::abs(y / x))
 }
 
 // The angle whose arc tangent of |y / x| is z, in the quarter of the plane that m names.
-pub(crate) fn around(m: u64, z: f64) -> f64
+fn around(m: u64, z: f64) -> f64
     ensures { λ r. ⌜ r ≡ aroundOf m z ⌝ }
 {
     by_signs(m, z, -z, PI - (z - PI_LO), (z - PI_LO) - PI)
+}
+
+// The angle of the point (x, y), neither of them a NaN.
+pub(crate) fn angle(y: f64, x: f64) -> f64
+    ensures { λ r. ⌜ r ≡ angleOf y x ⌝ }
+{
+    let y_sign = number::sign_bit(y);
+    let m = y_sign | ((number::to_bits(x) >> 62) & 2);
+    if number::magnitude_bits(y) == 0 {
+        return on_axis(y, m);
+    }
+    if number::magnitude_bits(x) == 0 {
+        return upright(y_sign);
+    }
+    let ix = number::high_word(x);
+    let iy = number::high_word(y);
+    if ix == 0x7ff0_0000 {
+        return far_along(iy, m);
+    }
+    if iy == 0x7ff0_0000 {
+        return upright(y_sign);
+    }
+    let z = quotient(y, x, number::sign_bit(x), iy, ix);
+    around(m, z)
 }

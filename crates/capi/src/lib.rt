@@ -20,7 +20,7 @@ ghost use Rattle.capi.specs.Check.{checkedWord, CheckWord};
 ghost use Rattle.capi.specs.Crossing.{crossedWord, cornerAt, crossingAnswer};
 ghost use Rattle.capi.specs.Point.{put3, pointOn, pointAnswer};
 ghost use Rattle.capi.specs.Trace.{tracedWord, Bounded, TraceWord};
-ghost use Rattle.fdlibm.specs.Arctangent.{atan2Of};
+ghost use Rattle.arctangent.specs.Arctangent.{atan2Of};
 ghost use Rattle.fdlibm.specs.Sine.{sinOf, cosOf};
 ghost use Rattle.sqrt.specs.Sqrt.{SqrtGives};
 

@@ -1,6 +1,3 @@
-pub mod Fields
-pub mod Truncation
 pub mod Examples
 pub mod Laws
-pub mod Bounded
 pub mod Finite

@@ -4,12 +4,12 @@ use lib.Dec.{leb, eqb}
 use lib.Ieee.{Float, nan, neg}
 use Rattle.loops.specs.Loop.{pick}
 use Rattle.number.specs.Operators.{_⊖_, bits}
-use Rattle.fdlibm.specs.declared.reduction.Reduction.{Reduction}
-use Rattle.fdlibm.specs.declared.reduction.Reduced.{Reduced}
-use Rattle.fdlibm.specs.declared.reduction.Reduced.the-variants.{To, Beyond}
-use Rattle.fdlibm.specs.Words.{ixOf}
+use Rattle.reduction.specs.declared.Reduction.{Reduction}
+use Rattle.reduction.specs.declared.Reduced.{Reduced}
+use Rattle.reduction.specs.declared.Reduced.the-variants.{To, Beyond}
+use Rattle.number.specs.Words.{highWord}
 use Rattle.fdlibm.specs.Kernel.{kernelSin, kernelCos}
-use Rattle.fdlibm.specs.Reduction.{remPio2}
+use Rattle.reduction.specs.Reduction.{remPio2}
 
 -- sin's switch (n & 3)
 unfoldable pub sinAt : Reduction → Float
@@ -34,8 +34,8 @@ inReach f Beyond = nan
 
 -- sin(x)
 unfoldable pub sinOf : Float → Float
-sinOf x = pick (leb (ixOf x) 0x3fe921fb) (kernelSin x (bits 0) false) (pick (leb 0x7ff00000 (ixOf x)) (x ⊖ x) (inReach sinAt (remPio2 x)))
+sinOf x = pick (leb (highWord x) 0x3fe921fb) (kernelSin x (bits 0) false) (pick (leb 0x7ff00000 (highWord x)) (x ⊖ x) (inReach sinAt (remPio2 x)))
 
 -- cos(x)
 unfoldable pub cosOf : Float → Float
-cosOf x = pick (leb (ixOf x) 0x3fe921fb) (kernelCos x (bits 0)) (pick (leb 0x7ff00000 (ixOf x)) (x ⊖ x) (inReach cosAt (remPio2 x)))
+cosOf x = pick (leb (highWord x) 0x3fe921fb) (kernelCos x (bits 0)) (pick (leb 0x7ff00000 (highWord x)) (x ⊖ x) (inReach cosAt (remPio2 x)))

@@ -2,7 +2,7 @@
 use crate::SinCos;
 ghost use mathlib.Core.Path.{_≡_};
 ghost use Prim.Native.Nat.{_≤_};
-ghost use Rattle.fdlibm.specs.Words.{ixOf};
+ghost use Rattle.number.specs.Words.{highWord};
 ghost use Rattle.fdlibm.specs.Kernel.{kernelSin, kernelCos, qxOf};
 
 const S1: f64 = -1.66666666666666324348e-01;
@@ -31,7 +31,7 @@ const C6: f64 = -1.13596475577881948265e-11;
 
 // The sine of x + y, where tail says whether there is a y at all.
 fn kernel_sin(x: f64, y: f64, tail: bool) -> f64
-    requires { ⌜ 0x3e400000 ≤ ixOf x ⌝ }
+    requires { ⌜ 0x3e400000 ≤ highWord x ⌝ }
     ensures { λ r. ⌜ r ≡ kernelSin x y tail ⌝ }
 {
     let z = x * x;
@@ -58,7 +58,7 @@ fn quarter(ix: u64) -> f64
 
 // The cosine of x + y, where ix is the high word of x.
 fn kernel_cos(x: f64, y: f64, ix: u64) -> f64
-    requires { ⌜ (ix ≡ ixOf x) × (0x3e400000 ≤ ix) ⌝ }
+    requires { ⌜ (ix ≡ highWord x) × (0x3e400000 ≤ ix) ⌝ }
     ensures { λ r. ⌜ r ≡ kernelCos x y ⌝ }
 {
     let z = x * x;
@@ -75,7 +75,7 @@ fn kernel_cos(x: f64, y: f64, ix: u64) -> f64
 pub(crate) fn kernels(x: f64, y: f64, tail: bool) -> SinCos
     ensures { λ r. ⌜ (r .sin ≡ kernelSin x y tail) × (r .cos ≡ kernelCos x y) ⌝ }
 {
-    let ix = (number::to_bits(x) >> 32) & 0x7fff_ffff;
+    let ix = number::high_word(x);
     if ix < 0x3e40_0000 {
         return SinCos { sin: x, cos: 1.0 };
     }

@@ -1,6 +1,5 @@
 //! fdlibm 5.3's sine and cosine: the same constants, the same order of operations, the same tests on the high words. Each function
-//! equals the definition of `specs/` that is written from the C function of its name. The arc tangents, defined here too, are the code of
-//! the crate `arctangent`.
+//! equals the definition of `specs/` that is written from the C function of its name.
 //! An angle is in reach when the upper 32 bits of its magnitude are at most hexadecimal 413921fb; beyond that sine and cosine are NaN.
 ghost use mathlib.Core.Path.{_≡_};
 ghost use Rattle.fdlibm.specs.Sine.{sinOf, cosOf, sinAt, cosAt};
@@ -8,12 +7,11 @@ use reduction::Reduced;
 use reduction::Reduction;
 
 mod kernel; // k_sin.c, k_cos.c
-mod reduction; // e_rem_pio2.c
 
 // The sine and the cosine of one angle.
-pub struct SinCos {
-    pub sin: f64,
-    pub cos: f64,
+struct SinCos {
+    sin: f64,
+    cos: f64,
 }
 
 // Both of a reduced angle, by its quadrant.
@@ -43,7 +41,7 @@ fn both_at(a: Reduction) -> SinCos
 fn both(x: f64) -> SinCos
     ensures { λ r. ⌜ (r .sin ≡ sinOf x) × (r .cos ≡ cosOf x) ⌝ }
 {
-    let ix = (number::to_bits(x) >> 32) & 0x7fff_ffff;
+    let ix = number::high_word(x);
     if ix <= 0x3fe9_21fb {
         return kernel::kernels(x, 0.0, false);
     }

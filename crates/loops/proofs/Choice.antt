@@ -18,3 +18,8 @@ and-taken p e h = rw (← p, e) h
 -- and its first part, where that fails
 pub and-left : {a r : Bool} (b : Bool) → r ≡ a → r ≡ false → r ≡ a && b
 and-left b p e = rw (← p, e)
+
+-- what both ways of a choice have, the choice has
+pub pick-is : {A : Type 0} (P : A → Type 0) (b : Bool) {u v : A} → P u → P v → P (pick b u v)
+pick-is P true p q = p
+pick-is P false p q = q

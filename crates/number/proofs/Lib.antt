@@ -8,3 +8,5 @@ pub mod Symmetry
 pub mod Order
 pub mod Sums
 pub mod Scaling
+pub mod Fields
+pub mod Bounded

@@ -5,20 +5,18 @@ use mathlib.Core.Logic.{_⊎_, inl, inr}
 use Prim.Native.Nat.{ℕ, zero, suc, _+_, _-_, _*_, _/_, _≤_, _<_, zero-le}
 use native.Mathlib.Nat.{le-refl, le-trans, le-antisymm, mul-comm, mul-right-comm, mul-assoc, mul-le-mul-right, le-of-mul-le-mul-right, mul-pos, zero-mul, zero-div, suc-mul, add-comm, div-mul-le-self, le-div-iff-mul-le, le-of-eq}
 use native.Mathlib.Omega.{arith}
-use mathlib.Core.Bool.{Bool, true, false, not, _&&_, _||_, and-true}
+use mathlib.Core.Bool.{Bool, true, false, not, _&&_, _||_, and-true, cond}
 use lib.IntN.{ℤ}
-use lib.Signed.{leZ, _≤ℤ_, leZ-yes}
-use lib.Dec.{T, leb→le, le→leb, ltb, eqb, ltb→lt, nltb→le, eqb→eq, lit<}
+use lib.Dec.{T, ltb, eqb, ltb→lt, nltb→le, eqb→eq}
 use lib.Arith.{le→nltb}
 use lib.Pow.{pow-pos}
-use lib.Ieee.{Float, nan, inf, fin, binary64, up, down, isNan, fits, round, neg, lt, eq, le, below, level}
+use lib.Ieee.{Float, nan, inf, fin, up, down, isNan, lt, eq, le, below, level}
 use lib.Ieee.Fits.{down-pos, eq→eqb}
-use lib.Ieee.Scale.{finite, round-same}
-use lib.Ieee.Order.{round-mono}
+use lib.Ieee.Scale.{finite}
 use Rattle.number.specs.Operators.{_<?_, _≤?_}
-use Rattle.number.specs.Units.{unitsInOne, mag, neg?, signed, inUnits}
-use Rattle.number.proofs.Values.{Is, whole, both-ways}
-use Rattle.number.proofs.Symmetry.{round-neg}
+use Rattle.number.specs.Helpers.{minOf}
+use Rattle.number.specs.Units.{unitsInOne, mag, neg?}
+use Rattle.number.proofs.Values.{Is, both-ways}
 
 -- ---- ±a ≤ ±b, for two whole numbers with signs
 
@@ -210,61 +208,6 @@ le-through (fin s m e) (fin t n d) (inf false) p q = unfold le in tt
 le-through (fin s m e) (fin t n d) (fin u k c) p q =
     Le→le s u m k e c (thirds s t u (m * up e) (n * up d) (k * up c) (down e) (down d) (down c) (down-pos e) (down-pos d) (down-pos c) (le→Le s t m n e d p) (le→Le t u n k d c q))
 
--- signs turned, the order is turned
-Le-turn : (s t : Bool) (a b : ℕ) → Le s a t b → Le (not t) b (not s) a
-Le-turn false false a b h = h
-Le-turn false true a b h = omega arith
-Le-turn true false a b h = tt
-Le-turn true true a b h = h
-
-pub neg-le : (x y : Float) → T (x ≤? y) → T (neg y ≤? neg x)
-unfolding neg
-neg-le nan y h = unfold le in absurd h
-neg-le (inf s) nan h = unfold le in absurd h
-neg-le (inf true) (inf true) h = unfold le in tt
-neg-le (inf true) (inf false) h = unfold le in tt
-neg-le (inf false) (inf true) h = unfold le in absurd h
-neg-le (inf false) (inf false) h = unfold le in tt
-neg-le (inf true) (fin t n d) h = unfold le in tt
-neg-le (inf false) (fin t n d) h = unfold le in absurd h
-neg-le (fin s m e) nan h = unfold le in absurd h
-neg-le (fin s m e) (inf true) h = unfold le in absurd h
-neg-le (fin s m e) (inf false) h = unfold le in tt
-neg-le (fin s m e) (fin t n d) h = Le→le (not t) (not s) n m d e (Le-turn s t (m * up e * down d) (n * up d * down e) (le→Le s t m n e d h))
-
--- rounding keeps the order of ±a / c and ±b / c
-round-zero : (s t : Bool) (c : ℕ) → 0 < c → T (round binary64 s 0 c ≤? round binary64 t 0 c)
-round-zero s t c C =
-    subst (λ (x : Float). T (x ≤? round binary64 t 0 c)) (same-zero s) (subst (λ (x : Float). T (round binary64 s 0 1 ≤? x)) (same-zero t) (closed s t))
-  where
-    same-zero : (s : Bool) → round binary64 s 0 1 ≡ round binary64 s 0 c
-    same-zero s = round-same binary64 s 0 1 0 c (lit< tt) C (zero-mul c ∙ sym (zero-mul 1))
-
-    closed : (s t : Bool) → T (round binary64 s 0 1 ≤? round binary64 t 0 1)
-    closed true true = unfold round le in tt
-    closed true false = unfold round le in tt
-    closed false true = unfold round le in tt
-    closed false false = unfold round le in tt
-
-above-zero : (a b c : ℕ) → 0 < c → a ≤ b → T (round binary64 false a c ≤? round binary64 false b c)
-above-zero a b c C h = round-mono binary64 a c b c C C (mul-le-mul-right c h)
-
-below-zero : (a b c : ℕ) → 0 < c → b ≤ a → T (round binary64 true a c ≤? round binary64 true b c)
-below-zero a b c C h =
-    subst (λ (x : Float). T (x ≤? round binary64 true b c)) (sym (round-neg false a c)) (subst (λ (x : Float). T (neg (round binary64 false a c) ≤? x)) (sym (round-neg false b c))
-    (neg-le (round binary64 false b c) (round binary64 false a c) (above-zero b a c C h)))
-
-pub round-le : (s t : Bool) (a b c : ℕ) → 0 < c → Le s a t b → T (round binary64 s a c ≤? round binary64 t b c)
-round-le false false a b c C h = above-zero a b c C h
-round-le true true a b c C h = below-zero a b c C h
-round-le true false a b c C h =
-    le-through (round binary64 true a c) (round binary64 true 0 c) (round binary64 false b c) (below-zero a 0 c C zero-le)
-    (le-through (round binary64 true 0 c) (round binary64 false 0 c) (round binary64 false b c) (round-zero true false c C) (above-zero 0 b c C zero-le))
-round-le false true a b c C h =
-    let x : 0 ≡ a = omega arith in
-    let y : 0 ≡ b = omega arith in
-    subst (λ (n : ℕ). T (round binary64 false n c ≤? round binary64 true b c)) x (subst (λ (n : ℕ). T (round binary64 false 0 c ≤? round binary64 true n c)) y (round-zero false true c C))
-
 -- ---- `<` and `<=` together
 
 lt-numbers : (x y : Float) → T (x <? y) → T (not (isNan x)) × T (not (isNan y))
@@ -321,6 +264,28 @@ lt-le-through x y z p q = not-le→lt x z (lt-numbers x y p .0) (le-numbers y z 
 
 pub le-lt-through : (x y z : Float) → T (x ≤? y) → T (y <? z) → T (x <? z)
 le-lt-through x y z p q = not-le→lt x z (le-numbers x y p .0) (lt-numbers y z q .1) (λ t. lt→not-le y z q (le-through z x y t p))
+
+-- ---- a minimum is at most each of the two, where that one is no NaN
+
+pub min-left : (a b : Float) → T (not (isNan a)) → T (minOf a b ≤? a)
+unfolding minOf
+min-left a b h = go (isNan a) (isNan b) (b <? a) refl (lt→le b a)
+  where
+    go : (m n l : Bool) → isNan a ≡ m → (T l → T (b ≤? a)) → T (cond m b (cond n a (cond l b a)) ≤? a)
+    go true n l p f = absurd (subst (λ (t : Bool). T (not t)) p h)
+    go false true l p f = le-self a h
+    go false false true p f = f tt
+    go false false false p f = le-self a h
+
+pub min-right : (a b : Float) → T (not (isNan b)) → T (minOf a b ≤? b)
+unfolding minOf
+min-right a b h = go (isNan a) (isNan b) (b <? a) refl refl refl
+  where
+    go : (m n l : Bool) → isNan a ≡ m → isNan b ≡ n → (b <? a) ≡ l → T (cond m b (cond n a (cond l b a)) ≤? b)
+    go true n l p q s = le-self b h
+    go false true l p q s = absurd (subst (λ (t : Bool). T (not t)) q h)
+    go false false true p q s = le-self b h
+    go false false false p q s = not-lt→le b a h (subst (λ (t : Bool). T (not t)) (sym p) tt) (λ t. subst T s t)
 
 -- ---- the order of finite numbers is that of their whole numbers of units
 
@@ -379,32 +344,3 @@ mag→le (fin u m e) (fin v n d) a p f s h =
         (le-trans (le-of-eq (mul-right-comm (m * up e) (down d) unitsInOne ∙ ap (λ (i : ℕ). i * down d) (p .1) ∙ mul-right-comm a (down e) (down d)))
         (le-trans (mul-le-mul-right (down e) (le-div-iff-mul-le (down-pos d) .0 h)) (le-of-eq (mul-right-comm (n * up d) unitsInOne (down e)))))
         (pow-pos 1074)
-
--- and so, as integers
-Le→ℤ : (s t : Bool) (a b : ℕ) → Le s a t b → T (leZ (signed s a) (signed t b))
-Le→ℤ false false a b h = le→leb a b h
-Le→ℤ false true zero zero h = tt
-Le→ℤ false true zero (suc b) h = absurd (omega arith)
-Le→ℤ false true (suc a) b h = absurd (omega arith)
-Le→ℤ true false zero b h = le→leb 0 b zero-le
-Le→ℤ true false (suc a) b h = tt
-Le→ℤ true true zero zero h = tt
-Le→ℤ true true zero (suc b) h = absurd (omega arith)
-Le→ℤ true true (suc a) zero h = tt
-Le→ℤ true true (suc a) (suc b) h = le→leb b a (omega arith)
-
-ℤ→Le : (s t : Bool) (a b : ℕ) → T (leZ (signed s a) (signed t b)) → Le s a t b
-ℤ→Le false false a b h = leb→le a b h
-ℤ→Le false true a zero h = let x = leb→le a 0 h in omega arith
-ℤ→Le false true a (suc b) h = absurd h
-ℤ→Le true false a b h = tt
-ℤ→Le true true a zero h = zero-le
-ℤ→Le true true zero (suc b) h = absurd h
-ℤ→Le true true (suc a) (suc b) h = let x = leb→le b a h in omega arith
-
-module _ (x y : Float) (fx : T (fits binary64 x)) (fy : T (fits binary64 y)) (hx : T (finite x)) (hy : T (finite y)) where
-  pub le→ℤ : T (x ≤? y) → inUnits x ≤ℤ inUnits y
-  le→ℤ h = leZ-yes (Le→ℤ (neg? x) (neg? y) (mag x) (mag y) (le→units x y (neg? x) (neg? y) (mag x) (mag y) (whole x fx hx) (whole y fy hy) h))
-
-  pub ℤ→le : inUnits x ≤ℤ inUnits y → T (x ≤? y)
-  ℤ→le h = units→le x y (neg? x) (neg? y) (mag x) (mag y) (whole x fx hx) (whole y fy hy) (ℤ→Le (neg? x) (neg? y) (mag x) (mag y) (h .le))

@@ -73,15 +73,6 @@ error n c C = go (eq-zero-or-pos (drop 53 n c))
     go (inr l) = times (2 ^ 52) (got 53 n c * c) n (c * 2 ^ drop 53 n c) (n + c * 2 ^ 52) (half-unit 53 n c C)
         (let k = unit-small 53 n c (lit< tt) C l in omega arith)
 
--- where the fraction is in the normal range, 2 ^ 52 units at least, one part in 2 ^ 53 alone
-pub error-normal : (n c : ℕ) → 0 < c → 2 ^ 52 * c ≤ n → Within (got 53 n c * c * 2 ^ 53) (n * 2 ^ 53) n
-error-normal n c C big = go (eq-zero-or-pos (drop 53 n c))
-  where
-    go : (drop 53 n c ≡ 0) ⊎ (0 < drop 53 n c) → Within (got 53 n c * c * 2 ^ 53) (n * 2 ^ 53) n
-    go (inl z) = times (2 ^ 52) (got 53 n c * c) n (c * 2 ^ drop 53 n c) n (half-unit 53 n c C)
-        (let k : c * 2 ^ drop 53 n c ≡ c * 1 = ap (λ (x : ℕ). c * 2 ^ x) z in omega arith)
-    go (inr l) = times (2 ^ 52) (got 53 n c * c) n (c * 2 ^ drop 53 n c) n (half-unit 53 n c C) (unit-small 53 n c (lit< tt) C l)
-
 -- a whole number of units: one part in 2 ^ 53
 exact-closest : (d c : ℕ) → 0 < c → closest (d * c) c ≡ d
 exact-closest d c C =

@@ -1,7 +1,7 @@
 -- Products by a tenth and by a half.
 use mathlib.Core.Path.{_≡_, refl, sym, ap, _∙_, subst}
-use Prim.Native.Nat.{ℕ, zero, suc, _+_, _-_, _*_, _^_, _≤_, _<_}
-use native.Mathlib.Nat.{le-of-lt, lt-of-le-of-lt, lt-of-lt-of-le, not-le-of-lt, mul-one, mul-assoc, mul-pos, mul-le-mul-left, mul-le-mul-right, le-of-mul-le-mul-right, div-lt-iff-lt-mul, pow-suc}
+use Prim.Native.Nat.{ℕ, zero, suc, _-_, _*_, _^_, _≤_, _<_}
+use native.Mathlib.Nat.{le-of-lt, lt-of-le-of-lt, mul-one, mul-assoc, mul-pos, mul-le-mul-left, mul-le-mul-right, div-lt-iff-lt-mul, pow-suc}
 use native.Mathlib.Omega.{arith}
 use mathlib.Core.Bool.{Bool, true, false}
 use lib.Dec.{T, lit<, lit≤}
@@ -10,16 +10,15 @@ use lib.Ieee.{Float, nan, inf, fin, binary64, size, round, ofBits, fits}
 use lib.Ieee.Digits.{size-lt, size-reaches}
 use lib.Ieee.Fits.{down-pos}
 use lib.Ieee.Order.{round-mono}
-use lib.Ieee.Scale.{finite, grid, round-same, round-val}
+use lib.Ieee.Scale.{finite, round-same}
 use lib.Ieee.Positive.{positive, num, den, den-pos, positive-finite, own-value, mul-at}
-use Rattle.number.specs.Operators.{_⊗_, _<?_, _≤?_}
+use Rattle.number.specs.Operators.{_⊗_, _≤?_}
 use Rattle.number.specs.Helpers.{half, tenth}
 use Rattle.number.specs.Units.{unitsInOne, mag, neg?}
-use Rattle.number.proofs.Values.{Is, Held, is-number, whole, held, below-top, mul-is}
-use Rattle.number.proofs.Rounding.{error}
+use Rattle.number.proofs.Values.{Is, Held, whole, held, below-top, mul-is}
 use Rattle.number.proofs.Neighbours.{multiple}
 use Rattle.number.proofs.Sums.{round-held, unlike-false}
-use Rattle.number.proofs.Order.{le-through, le→units, mag→le, not-le→lt}
+use Rattle.number.proofs.Order.{le-through, mag→le}
 
 half-is : Is half false (2 ^ 1073)
 unfolding ofBits
@@ -28,8 +27,9 @@ half-is = (refl, refl)
 -- a product of n units of units that binary64 holds as k units is exact
 round-product : (s : Bool) (n k : ℕ) → n ≡ k * unitsInOne → Held k → k < 2 ^ 2098 → Is (round binary64 s n (unitsInOne * unitsInOne)) s k
 round-product s n k e h top =
-    subst (λ (x : Float). Is x s k) (sym (round-same binary64 s n (unitsInOne * unitsInOne) k unitsInOne (mul-pos (pow-pos 1074) (pow-pos 1074)) (pow-pos 1074) (ap (λ (x : ℕ). x * unitsInOne) e ∙ mul-assoc k unitsInOne unitsInOne)))
-    (round-held s k h top)
+    let q = ap (λ (x : ℕ). x * unitsInOne) e ∙ mul-assoc k unitsInOne unitsInOne in
+    let r = round-same binary64 s n (unitsInOne * unitsInOne) k unitsInOne (mul-pos (pow-pos 1074) (pow-pos 1074)) (pow-pos 1074) q in
+    subst (λ (x : Float). Is x s k) (sym r) (round-held s k h top)
 
 -- ---- a tenth of c is at most c, whatever c's format, and so what is at most a tenth of c is at most c
 
@@ -101,7 +101,10 @@ module _ (x : Float) (f : T (fits binary64 x)) (h : T (finite x)) where
       let m = multiple (mag x) 1 (held x f h) big in
       let k = m .0 in
       let e : mag x ≡ k * 2 = m .1 in
-      (k, e, subst (λ (y : Float). Is y (neg? x) k) (sym halved) (round-product (neg? x) (mag x * 2 ^ 1073) k (ap (λ (y : ℕ). y * 2 ^ 1073) e ∙ mul-assoc k 2 (2 ^ 1073)) (half-held (mag x) k (held x f h) big e) (lt-of-le-of-lt (let y = e in omega arith) (below-top x (neg? x) (mag x) f (whole x f h)))))
+      let q = ap (λ (y : ℕ). y * 2 ^ 1073) e ∙ mul-assoc k 2 (2 ^ 1073) in
+      let top : k < 2 ^ 2098 = lt-of-le-of-lt (let y = e in omega arith) (below-top x (neg? x) (mag x) f (whole x f h)) in
+      let r = round-product (neg? x) (mag x * 2 ^ 1073) k q (half-held (mag x) k (held x f h) big e) top in
+      (k, e, subst (λ (y : Float). Is y (neg? x) k) (sym halved) r)
     where
       half-held : (a k : ℕ) → Held a → 2 ^ 53 ≤ a → a ≡ k * 2 → Held k
       half-held a k (p, zero, l, e) b q = absurd (let y = mul-one p in omega arith)
@@ -109,28 +112,3 @@ module _ (x : Float) (f : T (fits binary64 x)) (h : T (finite x)) where
         where
           half-of : (a k n : ℕ) → a ≡ k * 2 → a ≡ n * 2 → k ≡ n
           half-of a k n u v = omega arith
-
-  -- half of a number above zero is below it
-  pub half-falls : neg? x ≡ false → 0 < mag x → T (x ⊗ half <? x)
-  half-falls s p =
-      let v : Is x false (mag x) = subst (λ (t : Bool). Is x t (mag x)) s (whole x f h) in
-      let g = grid binary64 (mag x * 2 ^ 1073) (unitsInOne * unitsInOne) in
-      let e : x ⊗ half ≡ round binary64 false (mag x * 2 ^ 1073) (unitsInOne * unitsInOne) = halved ∙ ap (λ (t : Bool). round binary64 t (mag x * 2 ^ 1073) (unitsInOne * unitsInOne)) s in
-      let l : g < mag x = fewer (mag x) p in
-      let i : Is (x ⊗ half) false g = subst (λ (y : Float). Is y false g) (sym e) (round-val binary64 (mag x * 2 ^ 1073) (unitsInOne * unitsInOne) (lt-of-lt-of-le l (le-of-lt (below-top x false (mag x) f v)))) in
-      not-le→lt (x ⊗ half) x (is-number (x ⊗ half) false g i) (is-number x false (mag x) v) (λ t. not-le-of-lt l (le→units x (x ⊗ half) false false (mag x) g v i t))
-    where
-      small : grid binary64 (1 * 2 ^ 1073) (unitsInOne * unitsInOne) ≡ 0
-      small = unfold size in refl
-
-      cancel : (g a l : ℕ) → 0 < l → g * (2 * l * (2 * l)) * 2 ^ 53 ≤ a * l * (2 * l) * 2 ^ 53 + (a * l * (2 * l) + 2 * l * (2 * l) * 2 ^ 52) → g * 2 ^ 54 ≤ a * 2 ^ 53 + a + 2 ^ 53
-      cancel g a l L w = le-of-mul-le-mul-right {k = l * l * 2} (omega arith) (mul-pos (mul-pos L L) (lit< tt))
-
-      fewer : (a : ℕ) → 0 < a → grid binary64 (a * 2 ^ 1073) (unitsInOne * unitsInOne) < a
-      fewer zero p = absurd (omega arith)
-      fewer (suc zero) p = subst (λ (n : ℕ). n < 1) (sym small) p
-      fewer (suc (suc a)) p =
-          let n = suc (suc a) in
-          let g = grid binary64 (n * 2 ^ 1073) (unitsInOne * unitsInOne) in
-          let w = cancel g n (2 ^ 1073) (pow-pos 1073) (error (n * 2 ^ 1073 * unitsInOne) (unitsInOne * unitsInOne) (mul-pos (pow-pos 1074) (pow-pos 1074)) .0) in
-          omega arith

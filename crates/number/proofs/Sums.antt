@@ -1,21 +1,20 @@
 -- Sums, differences and products of finite numbers beside the exact ones, as whole numbers of units.
 use mathlib.Core.Path.{_≡_, refl, sym, ap, _∙_, subst}
-use Prim.Native.Nat.{ℕ, zero, suc, _+_, _-_, _*_, _/_, _^_, _≤_, _<_, zero-le}
-use native.Mathlib.Nat.{le-trans, le-of-eq, add-zero, zero-mul, mul-zero, mul-pos, le-of-mul-le-mul-right}
+use Prim.Native.Nat.{ℕ, zero, suc, _+_, _-_, _*_, _^_, _≤_, _<_, zero-le}
+use native.Mathlib.Nat.{le-trans, le-of-eq, add-zero}
 use native.Mathlib.Omega.{arith}
 use mathlib.Core.Bool.{Bool, true, false, not, _&&_, Bool·beq, cond}
-use lib.IntN.{ℤ, pos, negsuc, negℤ, natAbs, subℕ, _+ℤ_, _-ℤ_, _*ℤ_, +ℤ-comm, negℤ-+ℤ}
+use lib.IntN.{ℤ, pos, negsuc, negℤ, natAbs, subℕ, _+ℤ_, _-ℤ_, +ℤ-comm, negℤ-+ℤ}
 use lib.Dec.{T, ltb, ltb→lt, nltb→le}
 use lib.Pow.{pow-pos}
-use lib.Ieee.{Float, nan, inf, fin, binary64, unlike, up, down, round, sum, neg, sub, fits}
-use lib.Ieee.Fits.{neg-fits}
+use lib.Ieee.{Float, binary64, unlike, round, sum, fits}
 use lib.Ieee.Exact.{round-exact}
 use lib.Ieee.Scale.{grid, finite}
-use Rattle.number.specs.Operators.{_⊕_, _⊖_, _⊗_}
+use Rattle.number.specs.Operators.{_⊕_}
 use Rattle.number.specs.Units.{unitsInOne, mag, neg?, signed, inUnits}
-use Rattle.number.proofs.Values.{Is, Held, is-own, whole, round-is-grid, add-is, mul-is, apart}
-use Rattle.number.proofs.Rounding.{Within, error, error-whole}
-use Rattle.number.proofs.Finite.{add-finite, mul-finite}
+use Rattle.number.proofs.Values.{Is, Held, is-own, whole, round-is-grid, add-is, apart}
+use Rattle.number.proofs.Rounding.{Within, error-whole}
+use Rattle.number.proofs.Finite.{add-finite}
 
 -- ---- integers with a sign and a size
 
@@ -49,11 +48,6 @@ signed-abs : (s : Bool) (a : ℕ) → natAbs (signed s a) ≡ a
 signed-abs true zero = refl
 signed-abs true (suc a) = refl
 signed-abs false a = refl
-
-signed-neg : (s : Bool) (a : ℕ) → signed (not s) a ≡ negℤ (signed s a)
-signed-neg true zero = refl
-signed-neg true (suc a) = refl
-signed-neg false a = refl
 
 -- ±a + ±b as one sign and one size
 less : (a b : ℕ) → a < b → subℕ a b ≡ negℤ (pos (b - a))
@@ -91,15 +85,29 @@ summed true false a b = go (ltb a b) (ltb b a) (ltb→lt a b) (nltb→le a b) (l
     as-minus : signed true a +ℤ signed false b ≡ subℕ b a
     as-minus = +ℤ-comm (signed true a) (pos b) ∙ minus b a
 
+    rest : Bool → Float
+    rest k = round binary64 (true && k) (a - b) unitsInOne
+
+    chosen : Bool → Float
+    chosen k = cond k (round binary64 false (b - a) unitsInOne) (rest (ltb b a))
+
     go : (l g : Bool) → (T l → a < b) → (T (not l) → b ≤ a) → (T g → b < a) → (T (not g) → a ≤ b) → ltb a b ≡ l → ltb b a ≡ g → Summed true a false b
-    go true g p q r u e f = record { sign = false; size = b - a; is = ap (λ (k : Bool). cond k (round binary64 false (b - a) unitsInOne) (round binary64 (true && ltb b a) (a - b) unitsInOne)) e; exact = sym (as-minus ∙ more b a (let x = p tt in omega arith)) }
-    go false true p q r u e f = record { sign = true; size = a - b; is = ap (λ (k : Bool). cond k (round binary64 false (b - a) unitsInOne) (round binary64 (true && ltb b a) (a - b) unitsInOne)) e ∙ ap (λ (k : Bool). round binary64 (true && k) (a - b) unitsInOne) f; exact = sym (as-minus ∙ less b a (r tt)) }
-    go false false p q r u e f = record { sign = false; size = a - b; is = ap (λ (k : Bool). cond k (round binary64 false (b - a) unitsInOne) (round binary64 (true && ltb b a) (a - b) unitsInOne)) e ∙ ap (λ (k : Bool). round binary64 (true && k) (a - b) unitsInOne) f; exact = sym (as-minus ∙ more b a (u tt) ∙ ap pos (let x = q tt in let y = u tt in omega arith)) }
+    go true g p q r u e f = record { sign = false; size = b - a; is = ap chosen e; exact = sym (as-minus ∙ more b a (let x = p tt in omega arith)) }
+    go false true p q r u e f = record { sign = true; size = a - b; is = ap chosen e ∙ ap rest f; exact = sym (as-minus ∙ less b a (r tt)) }
+    go false false p q r u e f = record {
+      sign = false;
+      size = a - b;
+      is = ap chosen e ∙ ap rest f;
+      exact = sym (as-minus ∙ more b a (u tt) ∙ ap pos (let x = q tt in let y = u tt in omega arith));
+    }
 summed false true a b = go (ltb a b) (ltb→lt a b) (nltb→le a b) refl
   where
+    chosen : Bool → Float
+    chosen k = cond k (round binary64 true (b - a) unitsInOne) (round binary64 false (a - b) unitsInOne)
+
     go : (l : Bool) → (T l → a < b) → (T (not l) → b ≤ a) → ltb a b ≡ l → Summed false a true b
-    go true p q e = record { sign = true; size = b - a; is = ap (λ (k : Bool). cond k (round binary64 true (b - a) unitsInOne) (round binary64 false (a - b) unitsInOne)) e; exact = sym (minus a b ∙ less a b (p tt)) }
-    go false p q e = record { sign = false; size = a - b; is = ap (λ (k : Bool). cond k (round binary64 true (b - a) unitsInOne) (round binary64 false (a - b) unitsInOne)) e; exact = sym (minus a b ∙ more a b (q tt)) }
+    go true p q e = record { sign = true; size = b - a; is = ap chosen e; exact = sym (minus a b ∙ less a b (p tt)) }
+    go false p q e = record { sign = false; size = a - b; is = ap chosen e; exact = sym (minus a b ∙ more a b (q tt)) }
 
 -- the value of a rounded ±n units, where it is finite
 pub round-units : (s : Bool) (n : ℕ) → T (finite (round binary64 s n unitsInOne)) → inUnits (round binary64 s n unitsInOne) ≡ signed s (grid binary64 n unitsInOne)
@@ -127,85 +135,23 @@ module _ (x y : Float) (fx : T (fits binary64 x)) (fy : T (fits binary64 y)) (h 
   -- a sum is one part in 2 ^ 53 or less from the exact one: nothing is lost to underflow
   pub sum-error : natAbs (inUnits (x ⊕ y) -ℤ (inUnits x +ℤ inUnits y)) * 2 ^ 53 ≤ natAbs (inUnits x +ℤ inUnits y)
   sum-error =
+      let s = plus .sign in
+      let n = plus .size in
+      let g = grid binary64 n unitsInOne in
       subst (λ (z : ℤ). natAbs (inUnits (x ⊕ y) -ℤ z) * 2 ^ 53 ≤ natAbs z) (plus .exact)
-      (subst (λ (v : ℤ). natAbs (v -ℤ signed (plus .sign) (plus .size)) * 2 ^ 53 ≤ natAbs (signed (plus .sign) (plus .size)))
-      (sym (ap inUnits as-round ∙ round-units (plus .sign) (plus .size) (subst (λ (v : Float). T (finite v)) as-round h)))
-      (le-trans (close (plus .sign) (grid binary64 (plus .size) unitsInOne) (plus .size) 0 (spare (grid binary64 (plus .size) unitsInOne) (plus .size) (error-whole (plus .size) unitsInOne (pow-pos 1074)))) (le-of-eq (add-zero (natAbs (signed (plus .sign) (plus .size)))))))
+      (subst (λ (v : ℤ). natAbs (v -ℤ signed s n) * 2 ^ 53 ≤ natAbs (signed s n))
+      (sym (ap inUnits as-round ∙ round-units s n (subst (λ (v : Float). T (finite v)) as-round h)))
+      (le-trans (close s g n 0 (spare g n (error-whole n unitsInOne (pow-pos 1074)))) (le-of-eq (add-zero (natAbs (signed s n))))))
     where
       spare : (g n : ℕ) → Within (g * 2 ^ 53) (n * 2 ^ 53) n → Within (g * 2 ^ 53) (n * 2 ^ 53) (n + 0)
       spare g n w = (omega (arith, w .0), omega (arith, w .1))
-
--- ---- differences
-
-neg-units : (y : Float) → inUnits (neg y) ≡ negℤ (inUnits y)
-unfolding neg
-neg-units nan = refl
-neg-units (inf s) = signed-neg s 0
-neg-units (fin s m e) = signed-neg s (m * up e * unitsInOne / down e)
-
--- a difference is one part in 2 ^ 53 or less from the exact one
-pub difference-error : (x y : Float) → T (fits binary64 x) → T (fits binary64 y) → T (finite (x ⊖ y)) → natAbs (inUnits (x ⊖ y) -ℤ (inUnits x -ℤ inUnits y)) * 2 ^ 53 ≤ natAbs (inUnits x -ℤ inUnits y)
-unfolding sub
-difference-error x y fx fy h =
-    subst (λ (z : ℤ). natAbs (inUnits (x ⊖ y) -ℤ (inUnits x +ℤ z)) * 2 ^ 53 ≤ natAbs (inUnits x +ℤ z)) (neg-units y)
-    (sum-error x (neg y) fx (neg-fits binary64 y fy) h)
-
--- ---- exact results
 
 -- ±n units are their own rounding where binary64 holds them
 pub round-held : (s : Bool) (n : ℕ) → Held n → n < 2 ^ 2098 → Is (round binary64 s n unitsInOne) s n
 round-held s n h top =
     round-exact binary64 s n unitsInOne (h .0) (h .1) (pow-pos 1074) (h .2) (subst (λ (k : ℕ). k < 2 ^ 2098) (h .3) top) (ap (λ (k : ℕ). k * unitsInOne) (h .3))
 
--- a sum that binary64 holds is exact
-pub sum-exact : (x y : Float) → T (fits binary64 x) → T (fits binary64 y) → T (finite x) → T (finite y) → Held (natAbs (inUnits x +ℤ inUnits y)) → natAbs (inUnits x +ℤ inUnits y) < 2 ^ 2098
-    → inUnits (x ⊕ y) ≡ inUnits x +ℤ inUnits y
-sum-exact x y fx fy hx hy held top =
-    let p = summed (neg? x) (neg? y) (mag x) (mag y) in
-    let n : natAbs (inUnits x +ℤ inUnits y) ≡ p .size = ap natAbs (sym (p .exact)) ∙ signed-abs (p .sign) (p .size) in
-    let i = round-held (p .sign) (p .size) (subst Held n held) (subst (λ (k : ℕ). k < 2 ^ 2098) n top) in
-    let o = is-own (round binary64 (p .sign) (p .size) unitsInOne) (p .sign) (p .size) i in
-    ap inUnits (add-is x y (neg? x) (neg? y) (mag x) (mag y) (whole x fx hx) (whole y fy hy) ∙ p .is)
-    ∙ ap (λ (k : Bool). signed k (mag (round binary64 (p .sign) (p .size) unitsInOne))) (o .0)
-    ∙ ap (signed (p .sign)) (o .1)
-    ∙ p .exact
-
--- ---- products
-
-signed-mul : (s t : Bool) (a b : ℕ) → signed s a *ℤ signed t b ≡ signed (unlike s t) (a * b)
-signed-mul true true zero zero = refl
-signed-mul true true zero (suc b) = ap (λ (k : ℕ). negℤ (pos k)) (zero-mul (suc b)) ∙ sym (ap pos (zero-mul (suc b)))
-signed-mul true true (suc a) zero = ap (λ (k : ℕ). negℤ (pos k)) (mul-zero (suc a)) ∙ sym (ap pos (mul-zero (suc a)))
-signed-mul true true (suc a) (suc b) = refl
-signed-mul true false zero b = ap pos (zero-mul b) ∙ sym (ap (λ (k : ℕ). negℤ (pos k)) (zero-mul b))
-signed-mul true false (suc a) b = refl
-signed-mul false true a zero = ap pos (mul-zero a) ∙ sym (ap (λ (k : ℕ). negℤ (pos k)) (mul-zero a))
-signed-mul false true a (suc b) = refl
-signed-mul false false a b = refl
-
 -- a factor that is not negative keeps the sign
 pub unlike-false : (s : Bool) → unlike s false ≡ s
 unlike-false true = refl
 unlike-false false = refl
-
--- a product is one part in 2 ^ 53 from the exact one, and half of the smallest number at the most where it underflows.
--- The exact product is in units of units, so the rounded one is multiplied by the unit.
-pub product-error : (x y : Float) → T (fits binary64 x) → T (fits binary64 y) → T (finite (x ⊗ y))
-    → natAbs (inUnits (x ⊗ y) *ℤ pos unitsInOne -ℤ inUnits x *ℤ inUnits y) * 2 ^ 53 ≤ natAbs (inUnits x *ℤ inUnits y) + unitsInOne * 2 ^ 52
-product-error x y fx fy h =
-    let s = unlike (neg? x) (neg? y) in
-    let n = mag x * mag y in
-    let g = grid binary64 n (unitsInOne * unitsInOne) in
-    let e = mul-is x y (neg? x) (neg? y) (mag x) (mag y) (whole x fx (mul-finite x y h .0)) (whole y fy (mul-finite x y h .1)) in
-    let o = is-own (round binary64 s n (unitsInOne * unitsInOne)) s g (round-is-grid s n (unitsInOne * unitsInOne) (subst (λ (v : Float). T (finite v)) e h)) in
-    let v : inUnits (x ⊗ y) *ℤ pos unitsInOne ≡ signed s (g * unitsInOne) = ap (λ (k : Float). inUnits k *ℤ pos unitsInOne) e
-    ∙ ap (λ (k : Bool). signed k (mag (round binary64 s n (unitsInOne * unitsInOne))) *ℤ pos unitsInOne) (o .0)
-    ∙ ap (λ (k : ℕ). signed s k *ℤ pos unitsInOne) (o .1)
-    ∙ signed-mul s false g unitsInOne ∙ ap (λ (k : Bool). signed k (g * unitsInOne)) (unlike-false s) in
-    let w = signed-mul (neg? x) (neg? y) (mag x) (mag y) in
-    subst (λ (z : ℤ). natAbs (z -ℤ inUnits x *ℤ inUnits y) * 2 ^ 53 ≤ natAbs (inUnits x *ℤ inUnits y) + unitsInOne * 2 ^ 52) (sym v)
-    (subst (λ (z : ℤ). natAbs (signed s (g * unitsInOne) -ℤ z) * 2 ^ 53 ≤ natAbs z + unitsInOne * 2 ^ 52) (sym w)
-    (close s (g * unitsInOne) n (unitsInOne * 2 ^ 52) (cancel g n unitsInOne (pow-pos 1074) (error (n * unitsInOne) (unitsInOne * unitsInOne) (mul-pos (pow-pos 1074) (pow-pos 1074))))))
-  where
-    cancel : (g n l : ℕ) → 0 < l → Within (g * (l * l) * 2 ^ 53) (n * l * 2 ^ 53) (n * l + l * l * 2 ^ 52) → Within (g * l * 2 ^ 53) (n * 2 ^ 53) (n + l * 2 ^ 52)
-    cancel g n l L w = (le-of-mul-le-mul-right {k = l} (omega (arith, w .0)) L, le-of-mul-le-mul-right {k = l} (omega (arith, w .1)) L)

@@ -1,4 +1,4 @@
--- What may be exchanged: a + b and b + a, a * b and b * a, and the squares of a - b and b - a.
+-- What may be exchanged: a * b and b * a, and the squares of a - b and b - a.
 use mathlib.Core.Path.{_≡_, refl, sym, ap, _∙_}
 use Prim.Native.Nat.{ℕ, zero, suc, _+_, _-_, _*_, _/_, _%_, _^_, _≤_, _<_, compare}
 use native.Mathlib.Nat.{add-comm, mul-comm}
@@ -7,7 +7,7 @@ use mathlib.Core.Bool.{Bool, true, false, not, _&&_, Bool·beq, Bool·not-not, c
 use lib.Dec.{T, ltb, eqb, ltb→lt, nltb→le}
 use lib.Ieee.{Float, nan, inf, fin, binary64, emax, low, unlike, up, down, size, nearest, odd, units, round, sum, neg, add, sub, mul}
 use lib.Ieee.Fits.{round-is}
-use Rattle.number.specs.Operators.{_⊕_, _⊖_, _⊗_}
+use Rattle.number.specs.Operators.{_⊖_, _⊗_}
 
 beq-swap : (s t : Bool) → Bool·beq s t ≡ Bool·beq t s
 beq-swap true true = refl
@@ -38,23 +38,6 @@ sum-swap : (s t : Bool) (a b c : ℕ) → sum binary64 s a t b c ≡ sum binary6
 unfolding sum parts
 sum-swap s t a b c = swapped s t a b c (ltb a b) (ltb b a) (ltb→lt a b) (ltb→lt b a) (nltb→le a b) (nltb→le b a)
 
-pub add-swap : (x y : Float) → x ⊕ y ≡ y ⊕ x
-unfolding add
-add-swap nan nan = refl
-add-swap nan (inf t) = refl
-add-swap nan (fin t n d) = refl
-add-swap (inf s) nan = refl
-add-swap (inf true) (inf true) = refl
-add-swap (inf true) (inf false) = refl
-add-swap (inf false) (inf true) = refl
-add-swap (inf false) (inf false) = refl
-add-swap (inf s) (fin t n d) = refl
-add-swap (fin s m e) nan = refl
-add-swap (fin s m e) (inf t) = refl
-add-swap (fin s m e) (fin t n d) =
-    sum-swap s t (m * up e * down d) (n * up d * down e) (down e * down d)
-    ∙ ap (sum binary64 t (n * up d * down e) s (m * up e * down d)) (mul-comm (down e) (down d))
-
 -- ---- products
 pub mul-swap : (x y : Float) → x ⊗ y ≡ y ⊗ x
 unfolding mul
@@ -71,7 +54,7 @@ mul-swap (fin s m e) (fin t n d) =
     ∙ ap (λ (k : ℕ). round binary64 (unlike t s) k (down e * down d)) (mul-comm (m * up e) (n * up d))
     ∙ ap (round binary64 (unlike t s) (n * up d * (m * up e))) (mul-comm (down e) (down d))
 
--- ---- the squares of a difference and of the difference turned round
+-- ---- the squares of a difference and of the difference changed round
 -- (-x) * (-x) is x * x
 unlike-not : (s t : Bool) → unlike (not s) (not t) ≡ unlike s t
 unlike-not true true = refl
@@ -114,24 +97,24 @@ opposite : (s : Bool) (a c : ℕ) → square (round binary64 (not s) a c) ≡ sq
 unfolding square
 opposite s a c = ap square (round-neg s a c) ∙ square-neg (round binary64 s a c)
 
--- with both signs turned a sum has the same square
-turned : (s u : Bool) (a b c : ℕ) (l g : Bool) → square (parts (not s) a (not u) b c l g) ≡ square (parts s a u b c l g)
+-- with both signs changed a sum has the same square
+changed : (s u : Bool) (a b c : ℕ) (l g : Bool) → square (parts (not s) a (not u) b c l g) ≡ square (parts s a u b c l g)
 unfolding parts
-turned true true a b c l g = opposite true (a + b) c
-turned false false a b c l g = opposite false (a + b) c
-turned true false a b c true g = opposite false (b - a) c
-turned true false a b c false true = opposite true (a - b) c
-turned true false a b c false false = refl
-turned false true a b c true g = opposite true (b - a) c
-turned false true a b c false true = opposite false (a - b) c
-turned false true a b c false false = refl
+changed true true a b c l g = opposite true (a + b) c
+changed false false a b c l g = opposite false (a + b) c
+changed true false a b c true g = opposite false (b - a) c
+changed true false a b c false true = opposite true (a - b) c
+changed true false a b c false false = refl
+changed false true a b c true g = opposite true (b - a) c
+changed false true a b c false true = opposite false (a - b) c
+changed false true a b c false false = refl
 
-sum-turned : (s t : Bool) (a b c : ℕ) → square (sum binary64 t b (not s) a c) ≡ square (sum binary64 s a (not t) b c)
+sum-changed : (s t : Bool) (a b c : ℕ) → square (sum binary64 t b (not s) a c) ≡ square (sum binary64 s a (not t) b c)
 unfolding sum parts
-sum-turned s t a b c =
+sum-changed s t a b c =
     ap square (sum-swap t (not s) b a c)
     ∙ ap (λ (k : Bool). square (sum binary64 (not s) a k b c)) (sym (Bool·not-not t))
-    ∙ turned s (not t) a b c (ltb a b) (ltb b a)
+    ∙ changed s (not t) a b c (ltb a b) (ltb b a)
 
 pub square-swap : (x y : Float) → (y ⊖ x) ⊗ (y ⊖ x) ≡ (x ⊖ y) ⊗ (x ⊖ y)
 unfolding square sub add neg
@@ -150,4 +133,4 @@ square-swap (fin s m e) (inf true) = unfold mul in refl
 square-swap (fin s m e) (inf false) = unfold mul in refl
 square-swap (fin s m e) (fin t n d) =
     ap (λ (k : ℕ). square (sum binary64 t (n * up d * down e) (not s) (m * up e * down d) k)) (mul-comm (down d) (down e))
-    ∙ sum-turned s t (m * up e * down d) (n * up d * down e) (down e * down d)
+    ∙ sum-changed s t (m * up e * down d) (n * up d * down e) (down e * down d)

@@ -109,7 +109,10 @@ module _ (A B C a b l : ℕ) (cp : 0 < C) (lp : 0 < l) (p : A * l ≡ a * C) (q 
       (λ h. lt-of-mul-lt-mul-right C (subst (λ (x : ℕ). x < b * C) p (subst (λ (x : ℕ). A * l < x) q (mul-lt-mul-of-pos-right h lp))))
 
   minus-cross : (A - B) * l ≡ (a - b) * C
-  minus-cross = mul-comm (A - B) l ∙ mul-sub l A B ∙ ap (λ (x : ℕ). x - l * B) (mul-comm l A ∙ p ∙ mul-comm a C) ∙ ap (λ (x : ℕ). C * a - x) (mul-comm l B ∙ q ∙ mul-comm b C) ∙ sym (mul-sub C a b) ∙ mul-comm C (a - b)
+  minus-cross =
+      let s = mul-comm l A ∙ p ∙ mul-comm a C in
+      let t = mul-comm l B ∙ q ∙ mul-comm b C in
+      mul-comm (A - B) l ∙ mul-sub l A B ∙ ap (λ (x : ℕ). x - l * B) s ∙ ap (λ (x : ℕ). C * a - x) t ∙ sym (mul-sub C a b) ∙ mul-comm C (a - b)
 
 -- ±a units and ±b units: `sum` sees only the values
 pub sum-same : (s t : Bool) (A B C a b l : ℕ) → 0 < C → 0 < l → A * l ≡ a * C → B * l ≡ b * C → sum binary64 s A t B C ≡ sum binary64 s a t b l
@@ -202,7 +205,8 @@ below-top (fin t zero e) s a f v = lt-of-le-of-lt (le-of-eq (none a (down e) (do
     none zero d D h = refl
     none (suc a) d D h = absurd (lt-irrefl 0 (subst (λ (k : ℕ). 0 < k) (sym h ∙ ap (λ (k : ℕ). k * unitsInOne) (zero-mul (up e)) ∙ zero-mul unitsInOne) (mul-pos (zero-lt-suc a) D)))
 below-top (fin t (suc m) e) s a f v =
+    let under = ltb (suc m * up e) (2 ^ 1024 * down e) in
+    let l = ltb→lt (suc m * up e) (2 ^ 1024 * down e) (and-r (eqb (suc m % 2) 1 && ltb (suc m) (2 ^ 53) && leb (down e) (2 ^ 1074)) under f) in
     lt-of-mul-lt-mul-right (down e)
     (lt-of-le-of-lt (le-of-eq (sym (v .1)))
-    (lt-of-lt-of-le (mul-lt-mul-of-pos-right (ltb→lt (suc m * up e) (2 ^ 1024 * down e) (and-r (eqb (suc m % 2) 1 && ltb (suc m) (2 ^ 53) && leb (down e) (2 ^ 1074)) (ltb (suc m * up e) (2 ^ 1024 * down e)) f)) (pow-pos 1074))
-    (le-of-eq (mul-right-comm (2 ^ 1024) (down e) unitsInOne))))
+    (lt-of-lt-of-le (mul-lt-mul-of-pos-right l (pow-pos 1074)) (le-of-eq (mul-right-comm (2 ^ 1024) (down e) unitsInOne))))

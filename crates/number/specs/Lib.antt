@@ -1,3 +1,4 @@
 pub mod Operators
 pub mod Helpers
 pub mod Units
+pub mod Words

@@ -4,6 +4,13 @@ ghost use lib.Ieee.{binary64, toBits, ofBits};
 ghost use lib.Ieee.Scale.{finite};
 ghost use Rattle.number.specs.Helpers.{absOf, maxOf, minOf, clampOf, magnitudeAtMost, numberFit, sameBits};
 
+mod words;
+
+pub use words::exponent_field;
+pub use words::high_word;
+pub use words::magnitude_bits;
+pub use words::sign_bit;
+
 // The smallest normal number, the Rust's `f64::MIN_POSITIVE`.
 pub const MIN_POSITIVE: f64 = 2.2250738585072014e-308;
 
@@ -88,7 +95,7 @@ pub fn is_finite(x: f64) -> bool
     ensures { λ r. ⌜ r ≡ finite x ⌝ }
 {
     let infinity = 1.0 / 0.0;
-    if x < infinity { -infinity < x } else { false }
+    x < infinity && -infinity < x
 }
 
 // Whether the magnitude of x is at most the limit; never of a NaN.

@@ -9,7 +9,7 @@ pub mod surface;
 ghost use mathlib.Core.Path.{_≡_};
 ghost use Prim.Native.Nat.{_+_, _≤_};
 ghost use lib.ListN.{length};
-ghost use Rattle.fdlibm.specs.Arctangent.{atanOf};
+ghost use Rattle.arctangent.specs.Arctangent.{atanOf};
 ghost use Rattle.probe.specs.Probe.{rowAt, probed, probe2Of, probe3Of, probe4Of, probeOf};
 
 fn row2(input: &[f64], at: usize) -> [f64; 2]

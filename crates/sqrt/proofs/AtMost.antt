@@ -260,10 +260,12 @@ module _ (s c : Float) (fs : T (fits binary64 s)) (fc : T (fits binary64 c)) (lo
         let p = squared c fc hq in
         let hd = finite-double in
         let d = sum-over s s (mag s) (mag s) v v hd in
-        let vg : Is (sqrtOf s) false (mag (sqrtOf s)) = subst (λ (t : Bool). Is (sqrtOf s) t (mag (sqrtOf s))) (sqrt-sign s fs finite-s n) (whole (sqrtOf s) (sqrt-fits s fs) (sqrt-finite s fs finite-s n)) in
-        units→le (sqrtOf s) c false false (mag (sqrtOf s)) (mag c) vg (b .0)
-        (near-at-most (mag c) (b .1) (mag (sqrtOf s))
-        (near-chain (mag s) (mag (sqrtOf s)) (mag c) (mag q) (mag (s ⊕ s)) unitsInOne (2 ^ 53) (2 ^ 53 - 1) (2 ^ 52)
+        let r = sqrtOf s in
+        let v' = whole r (sqrt-fits s fs) (sqrt-finite s fs finite-s n) in
+        let vr : Is r false (mag r) = subst (λ (t : Bool). Is r t (mag r)) (sqrt-sign s fs finite-s n) v' in
+        units→le r c false false (mag r) (mag c) vr (b .0)
+        (near-at-most (mag c) (b .1) (mag r)
+        (near-chain (mag s) (mag r) (mag c) (mag q) (mag (s ⊕ s)) unitsInOne (2 ^ 53) (2 ^ 53 - 1) (2 ^ 52)
         (sqrt-rooted s fs finite-s n .under) (p .under) (d .1) (le→units (s ⊕ s) q false false (mag (s ⊕ s)) (mag q) (d .0) (p .is) l)))
       where
         finite-double : T (finite (s ⊕ s))

@@ -68,8 +68,10 @@ farther x s c h = (
     below g n lo l (inl e) = farther-power (s .M) g (2 ^ s .j) c (subst (λ (y : ℕ). y * y ≤ s .M) e (s .above)) l
     below zero n lo l (inr p) = absurd (omega arith)
     below (suc k) n lo l (inr p) =
+        let near = subst (Nearest (s .M)) (sym (add-one k)) n in
+        let u = under-next c k (s .j) h (le-of-suc-le-suc p) (subst (λ (y : ℕ). c < y * 2 ^ s .j) (sym (add-one k)) l) in
         subst (λ (y : ℕ). (y * 2 ^ s .j + c) * (y * 2 ^ s .j + c) < 4 * (s .M * (2 ^ s .j * 2 ^ s .j))) (add-one k)
-        (farther-below (s .M) k (2 ^ s .j) c (pow-pos (s .j)) (subst (Nearest (s .M)) (sym (add-one k)) n) (under-next c k (s .j) h (le-of-suc-le-suc p) (subst (λ (y : ℕ). c < y * 2 ^ s .j) (sym (add-one k)) l)))
+        (farther-below (s .M) k (2 ^ s .j) c (pow-pos (s .j)) near u)
 
 -- of a finite number above 0
 pub sqrt-correct : (x : Float) → T (fits binary64 x) → AboveZero x → NearestRoot (mag x * unitsInOne) (sqrtOf x)

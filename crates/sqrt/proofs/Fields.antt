@@ -2,21 +2,18 @@
 use mathlib.Core.Path.{_≡_, refl, sym, ap, _∙_, subst}
 use mathlib.Core.Logic.{_⊎_, inl, inr}
 use Prim.Native.Nat.{ℕ, zero, suc, _+_, _*_, _^_, _≤_, _<_}
-use native.Mathlib.Nat.{lt-irrefl, zero-mul, mul-pos, mul-one, eq-or-lt-of-le}
+use native.Mathlib.Nat.{lt-irrefl, zero-mul, mul-pos, eq-or-lt-of-le}
 use native.Mathlib.Omega.{arith}
 use mathlib.Core.Bool.{Bool, true, false, cond, true≢false, false≢true}
-use lib.Dec.{T, eqb, eqb→eq}
+use lib.Dec.{eqb}
 use lib.Pow.{pow-pos}
-use lib.Ieee.{Float, nan, inf, fin, binary64, up, down, odd, ofFields}
+use lib.Ieee.{Float, nan, inf, fin, up, down, ofFields}
 use lib.Ieee.Fits.{down-pos}
-use lib.Ieee.Exact.{odd-sign}
 use Rattle.number.specs.Units.{unitsInOne}
 use Rattle.number.proofs.Values.{Is, is-own}
+use Rattle.number.proofs.Fields.{at, subnormal, normal}
 use Rattle.sqrt.specs.Sqrt.{sqrtOf, roundRoot}
 use Rattle.sqrt.specs.Nearest.{unitsOf}
-
-abbrev pub at : Bool → ℕ → ℕ → Float
-at s e t = ofFields binary64 s e t
 
 -- ---- a value above or below zero
 no-value : (e : lib.IntN.ℤ) (a : ℕ) → 0 < a → zero * up e * unitsInOne ≡ a * down e → ⊥
@@ -43,17 +40,6 @@ pub zero-field : (s : Bool) → sqrtOf (at s 0 0) ≡ at s 0 0
 unfolding sqrtOf ofFields
 zero-field s = refl
 
-off : (x : ℕ) → suc x ≡ 2047 → suc x < 2047 → ⊥
-off x e k = omega arith
-
-mid-value : (s : Bool) (x t : ℕ) → suc x < 2047 → Is (at s (suc x) t) s ((2 ^ 52 + t) * 2 ^ x)
-unfolding ofFields
-mid-value s x t k = go (eqb (suc x) 2047) (eqb→eq (suc x) 2047)
-  where
-    go : (b : Bool) → (T b → suc x ≡ 2047) → Is (cond b (cond (eqb t 0) (inf s) nan) (odd 53 s (2 ^ 52 + t) x 1074)) s ((2 ^ 52 + t) * 2 ^ x)
-    go true e = absurd (off x (e tt) k)
-    go false e = odd-sign 53 s (2 ^ 52 + t) x 1074
-
 mid-pos : (x t : ℕ) → 0 < (2 ^ 52 + t) * 2 ^ x
 mid-pos x t = mul-pos (omega arith) (pow-pos x)
 
@@ -62,10 +48,10 @@ unfolding unitsOf
 units-pos zero t h = omega arith
 units-pos (suc x) t h = mid-pos x t
 
-pub finite-value : (s : Bool) (x t : ℕ) → x < 2047 → Is (at s x t) s (unitsOf x t)
-unfolding unitsOf ofFields
-finite-value s zero t k = subst (Is (at s 0 t) s) (mul-one t) (odd-sign 53 s t 0 1074)
-finite-value s (suc x) t k = mid-value s x t k
+finite-value : (s : Bool) (x t : ℕ) → x < 2047 → Is (at s x t) s (unitsOf x t)
+unfolding unitsOf
+finite-value s zero t k = subnormal s t
+finite-value s (suc x) t k = normal s x t k
 
 -- a finite number above 0
 pub positive : (x t : ℕ) → x < 2047 → 0 < x + t → sqrtOf (at false x t) ≡ roundRoot (unitsOf x t * unitsInOne)

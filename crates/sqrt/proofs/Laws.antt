@@ -27,7 +27,9 @@ zero-mag s e = ap (λ (k : ℕ). k * unitsInOne / down e) (zero-mul (up e)) ∙ 
 pub zero-root : (x : Float) → T (fits binary64 x) → T (finite x) → mag x ≡ 0 → sqrtOf x ≡ x
 unfolding sqrtOf
 zero-root (fin s zero e) f h z = refl
-zero-root (fin s (suc m) e) f h z = absurd (lt-irrefl 0 (subst (λ (k : ℕ). 0 < k) (whole (fin s (suc m) e) f h .1 ∙ ap (λ (k : ℕ). k * down e) z ∙ zero-mul (down e)) (mul-pos (mul-pos (zero-lt-suc m) (up-pos e)) (pow-pos 1074))))
+zero-root (fin s (suc m) e) f h z =
+    let none = whole (fin s (suc m) e) f h .1 ∙ ap (λ (k : ℕ). k * down e) z ∙ zero-mul (down e) in
+    absurd (lt-irrefl 0 (subst (λ (k : ℕ). 0 < k) none (mul-pos (mul-pos (zero-lt-suc m) (up-pos e)) (pow-pos 1074))))
 
 -- ---- a finite number that is not negative
 module _ (x : Float) (f : T (fits binary64 x)) (h : T (finite x)) (n : neg? x ≡ false) where
@@ -90,14 +92,21 @@ pub sqrt-rooted : (x : Float) → T (fits binary64 x) → T (finite x) → neg? 
 sqrt-rooted x f h n = go (eq-zero-or-pos (mag x))
   where
     go : (mag x ≡ 0) ⊎ (0 < mag x) → Rooted x (mag (sqrtOf x))
-    go (inl z) = subst (Rooted x) (sym (ap mag (zero-root x f h z) ∙ z)) (record { over = le-of-eq (ap (λ (k : ℕ). k * unitsInOne * (2 ^ 53 * 2 ^ 53)) z); under = le-trans (le-of-eq (zero-mul ((2 ^ 53 - 1) * (2 ^ 53 - 1)))) zero-le })
+    go (inl z) =
+        subst (Rooted x) (sym (ap mag (zero-root x f h z) ∙ z))
+        (record {
+          over = le-of-eq (ap (λ (k : ℕ). k * unitsInOne * (2 ^ 53 * 2 ^ 53)) z);
+          under = le-trans (le-of-eq (zero-mul ((2 ^ 53 - 1) * (2 ^ 53 - 1)))) zero-le;
+        })
     go (inr A) =
         let s = shape x f h n A in
         let k : 2 ^ 53 ≤ 2 * s .g = mul-le-mul-left 2 (s .lo) in
+        let J = 2 ^ s .j in
+        let r = s .g * J * (s .g * J) in
         subst (Rooted x) (sym (root-mag x s))
         (record {
-          over = subst (λ (a : ℕ). a * (2 ^ 53 * 2 ^ 53) ≤ s .g * 2 ^ s .j * (s .g * 2 ^ s .j) * ((2 ^ 53 + 1) * (2 ^ 53 + 1))) (sym (s .is)) (over (s .M) (s .g) (2 ^ s .j) (2 ^ 53) k (s .near));
-          under = subst (λ (a : ℕ). s .g * 2 ^ s .j * (s .g * 2 ^ s .j) * ((2 ^ 53 - 1) * (2 ^ 53 - 1)) ≤ a * (2 ^ 53 * 2 ^ 53)) (sym (s .is)) (under (s .M) (s .g) (2 ^ s .j) (2 ^ 53 - 1) k (s .hi) (s .near));
+          over = subst (λ (a : ℕ). a * (2 ^ 53 * 2 ^ 53) ≤ r * ((2 ^ 53 + 1) * (2 ^ 53 + 1))) (sym (s .is)) (over (s .M) (s .g) J (2 ^ 53) k (s .near));
+          under = subst (λ (a : ℕ). r * ((2 ^ 53 - 1) * (2 ^ 53 - 1)) ≤ a * (2 ^ 53 * 2 ^ 53)) (sym (s .is)) (under (s .M) (s .g) J (2 ^ 53 - 1) k (s .hi) (s .near));
         })
 
 -- ---- the order: a greater number has no smaller root
@@ -113,7 +122,10 @@ le-mag x y p q h l = go (eq-zero-or-pos (mag x))
 
     go : (mag x ≡ 0) ⊎ (0 < mag x) → mag x ≤ mag y
     go (inl z) = le-trans (le-of-eq z) zero-le
-    go (inr A) = let k = positive-of-value x (mag x) unitsInOne p A in le-of-mul-le-mul-right {k = unitsInOne} (values-of-le x y (mag x) unitsInOne (mag y) unitsInOne k (pos y h (above-of-le x y k l)) p q l) (pow-pos 1074)
+    go (inr A) =
+        let k = positive-of-value x (mag x) unitsInOne p A in
+        let v = values-of-le x y (mag x) unitsInOne (mag y) unitsInOne k (pos y h (above-of-le x y k l)) p q l in
+        le-of-mul-le-mul-right {k = unitsInOne} v (pow-pos 1074)
 
 module _ (x y : Float) (fx : T (fits binary64 x)) (fy : T (fits binary64 y)) (hx : T (finite x)) (hy : T (finite y)) (nx : neg? x ≡ false) (ny : neg? y ≡ false) where
   pub sqrt-mono-units : mag x ≤ mag y → mag (sqrtOf x) ≤ mag (sqrtOf y)
@@ -125,7 +137,9 @@ module _ (x y : Float) (fx : T (fits binary64 x)) (fy : T (fits binary64 y)) (hx
           let B = lt-of-lt-of-le A l in
           let p = sqrt-correct x fx (hx, nx, A) in
           let q = sqrt-correct y fy (hy, ny, B) in
-          wrong (mag x * unitsInOne) (mag y * unitsInOne) (mag (sqrtOf x)) (mag (sqrtOf y)) (mul-le-mul-right unitsInOne l) (p .farther (sqrtOf y) (q .at-least) .1 k) (q .farther (sqrtOf x) (p .at-least) .0 k)))
+          let u = p .farther (sqrtOf y) (q .at-least) .1 k in
+          let v = q .farther (sqrtOf x) (p .at-least) .0 k in
+          wrong (mag x * unitsInOne) (mag y * unitsInOne) (mag (sqrtOf x)) (mag (sqrtOf y)) (mul-le-mul-right unitsInOne l) u v))
         where
           wrong : (a b g h : ℕ) → a ≤ b → (g + h) * (g + h) < 4 * a → 4 * b < (h + g) * (h + g) → ⊥
           wrong a b g h l p q = omega arith

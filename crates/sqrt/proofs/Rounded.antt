@@ -49,7 +49,9 @@ module _ (M j g : ℕ) (lo : 2 ^ 104 ≤ M) (hi : M < 2 ^ 106) (h : Nearest M g)
   w-lo = under-root n (q * 2 ^ j) w (le-trans (le-of-eq (mul-mul-mul-comm q (2 ^ j) q (2 ^ j))) (mul-le-mul-right (2 ^ j * 2 ^ j) (floorRoot-is M .0))) (floorRoot-is n .1)
 
   w-hi : w < (q + 1) * 2 ^ j
-  w-hi = above-root n w ((q + 1) * 2 ^ j) (floorRoot-is n .0) (lt-of-lt-of-le (mul-lt-mul-of-pos-right (floorRoot-is M .1) (mul-pos (pow-pos j) (pow-pos j))) (le-of-eq (mul-mul-mul-comm (q + 1) (q + 1) (2 ^ j) (2 ^ j))))
+  w-hi =
+      let l = mul-lt-mul-of-pos-right (floorRoot-is M .1) (mul-pos (pow-pos j) (pow-pos j)) in
+      above-root n w ((q + 1) * 2 ^ j) (floorRoot-is n .0) (lt-of-lt-of-le l (le-of-eq (mul-mul-mul-comm (q + 1) (q + 1) (2 ^ j) (2 ^ j))))
 
   drops : size w - 53 ≡ j
   drops = dropped w j

@@ -15,9 +15,10 @@ split-sum g = omega arith
 
 pub split : (m g : ℕ) → m * 2 ^ (g + 52) ≡ m * 2 ^ (g % 2) * 2 ^ 52 * (2 ^ (g / 2) * 2 ^ (g / 2))
 split m g =
-    ap (λ (x : ℕ). m * 2 ^ x) (split-sum g)
-    ∙ ap (λ (x : ℕ). m * x) (pow-add 2 (g % 2 + 52) (g / 2 + g / 2) ∙ ap (λ (x : ℕ). x * 2 ^ (g / 2 + g / 2)) (pow-add 2 (g % 2) 52) ∙ ap (λ (x : ℕ). 2 ^ (g % 2) * 2 ^ 52 * x) (pow-add 2 (g / 2) (g / 2)))
-    ∙ simp (mul-assoc)
+    let r = g % 2 in
+    let h = g / 2 in
+    let e = pow-add 2 (r + 52) (h + h) ∙ ap (λ (x : ℕ). x * 2 ^ (h + h)) (pow-add 2 r 52) ∙ ap (λ (x : ℕ). 2 ^ r * 2 ^ 52 * x) (pow-add 2 h h) in
+    ap (λ (x : ℕ). m * 2 ^ x) (split-sum g) ∙ ap (λ (x : ℕ). m * x) e ∙ simp (mul-assoc)
 
 pub doubled : (m p : ℕ) → 2 ^ 52 ≤ m → m < 2 ^ 53 → p < 2 → (2 ^ 52 ≤ m * 2 ^ p) × (m * 2 ^ p < 2 ^ 54)
 doubled m zero lo hi h = (omega arith, omega arith)

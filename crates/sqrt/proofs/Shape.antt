@@ -53,7 +53,10 @@ module _ (M : ℕ) (P : 0 < M) where
 
 -- a finite number is below 2 ^ 2098 units (`below-top`), so its root has few zeros
 few-zeros : (n M j : ℕ) → n ≡ M * (2 ^ j * 2 ^ j) → 2 ^ 104 ≤ M → n < 2 ^ 2098 * unitsInOne → j ≤ 1533
-few-zeros n M j e lo h = le-of-suc-le-suc (lt-of-not-le (λ (l : 1534 ≤ j). not-le-of-lt h (le-trans (lit≤ {m = 2 ^ 2098 * unitsInOne} {n = 2 ^ 104 * (2 ^ 1534 * 2 ^ 1534)} tt) (le-trans (mul-le-mul lo (mul-le-mul (pow-mono {i = 1534} l) (pow-mono {i = 1534} l))) (le-of-eq (sym e))))))
+few-zeros n M j e lo h =
+    le-of-suc-le-suc (lt-of-not-le (λ (l : 1534 ≤ j).
+    let k = pow-mono {i = 1534} l in
+    not-le-of-lt h (le-trans (lit≤ {m = 2 ^ 2098 * unitsInOne} {n = 2 ^ 104 * (2 ^ 1534 * 2 ^ 1534)} tt) (le-trans (mul-le-mul lo (mul-le-mul k k)) (le-of-eq (sym e))))))
 
 pos-first : (p i a : ℕ) → 0 < a → a ≡ p * 2 ^ i → 0 < p
 pos-first zero i a A e = absurd (lt-irrefl 0 (subst (λ (k : ℕ). 0 < k) (e ∙ zero-mul (2 ^ i)) A))

@@ -232,12 +232,8 @@ pub fn at_most(x: f64, c: f64) -> bool
         if square + square < x {
             return false;
         }
-        if 0.0 <= x {
-            if square <= 1.0 {
-                if x + x <= square {
-                    return true;
-                }
-            }
+        if 0.0 <= x && square <= 1.0 && x + x <= square {
+            return true;
         }
     }
     sqrt(x) <= c

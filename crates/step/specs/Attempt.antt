@@ -5,7 +5,7 @@ use lib.Ieee.{Float}
 use Rattle.loops.specs.Loop.{pick}
 use Rattle.number.specs.Operators.{bits, _⊗_, _⊘_, _<?_, _≤?_}
 use Rattle.number.specs.Helpers.{two, minPositive, maxOf}
-use Rattle.fdlibm.specs.Arctangent.{atan2Of}
+use Rattle.arctangent.specs.Arctangent.{atan2Of}
 use Rattle.geometry.specs.declared.vector.Vector3D.{Vector3D}
 use Rattle.geometry.specs.declared.point.Point3D.{Point3D}
 use Rattle.geometry.specs.declared.tolerance.Tolerance.{Tolerance}

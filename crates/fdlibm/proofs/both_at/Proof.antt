@@ -1,4 +1,3 @@
--- Quadrant by quadrant.
 use borrow.Author.Needs.{needs}
 use borrow.Author.Tests.{ne-eqb}
 use Rattle.fdlibm.specs.Sine.{sinAt, cosAt}

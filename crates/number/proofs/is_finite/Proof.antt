@@ -13,11 +13,12 @@ below-top (inf true) h = refl
 below-top (inf false) h = sym h
 below-top (fin s m e) h = refl
 
-not-below : (x : Float) → lt x (inf false) ≡ false → false ≡ finite x
+not-below : (x : Float) → lt x (inf false) ≡ false → lt x (inf false) ≡ finite x
 unfolding lt
 not-below nan h = refl
-not-below (inf s) h = refl
-not-below (fin s m e) h = sym h
+not-below (inf true) h = h
+not-below (inf false) h = refl
+not-below (fin s m e) h = refl
 
 returns : tie.Need-returns
 unfolding ofBits neg div

@@ -1,4 +1,3 @@
--- By that of `abs`.
 use borrow.Author.Needs.{needs}
 use Rattle.number.proofs.magnitude_at_most.Statement.{statement}
 use Rattle.number.proofs.magnitude_at_most.Tie as tie

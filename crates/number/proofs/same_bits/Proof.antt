@@ -1,4 +1,3 @@
--- By that of `to_bits`.
 use borrow.Author.Needs.{needs}
 use Rattle.number.specs.Helpers.{sameBits}
 use Rattle.number.proofs.same_bits.Statement.{statement}

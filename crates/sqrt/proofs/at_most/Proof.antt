@@ -15,7 +15,8 @@ returns-2 : tie.Need-returns-2
 returns-2 c =
     let o = c .before .before .before in
     let s = o .before .before in
-    sym (near (s .args .x) (s .args .c) (passes _ (s .good .0 .1)) (passes _ (s .good .1 .0 .1)) (passes _ (o .before .if1 .taken)) (passes _ (c .before .before .if3 .taken)) (passes _ (c .before .if4 .taken)) (passes _ (c .if5 .taken)))
+    sym (near (s .args .x) (s .args .c) (passes _ (s .good .0 .1)) (passes _ (s .good .1 .0 .1)) (passes _ (o .before .if1 .taken))
+    (passes _ (c .before .before .if3 .taken)) (passes _ (c .before .if4 .taken)) (passes _ (c .if5 .taken)))
 
 sqrt-requires : tie.Need-sqrt-requires
 sqrt-requires c κs = search needs

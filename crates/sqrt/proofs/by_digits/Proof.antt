@@ -1,4 +1,4 @@
--- The invariant: the digits found and those left make up the number, at each turn.
+-- The invariant: the digits found and those left make up the number, before each iteration.
 use mathlib.Core.Path.{_≡_, sym, ap, _∙_, subst}
 use Prim.Native.Nat.{ℕ, suc, _+_, _-_, _*_, _/_, _%_, _^_, _≤_, _<_}
 use native.Mathlib.Nat.{lt-of-lt-of-le, mul-assoc, pow-suc, mod-eq-of-lt, mod-lt, zero-add, mul-comm, mul-one, mul-pos}
@@ -44,7 +44,9 @@ fits : (a : ℕ) → a < 18014398509481984 → (a * 2 ^ 10) % 2 ^ 64 ≡ a * 2 ^
 fits a h = mod-eq-of-lt (omega arith)
 
 loop-holds : tie.Need-loop-holds Inv-loop μ-loop
-loop-holds c = (ap (λ (x : ℕ). x * 4 ^ 53) (zero-add ((c .args .a * 2 ^ 10) % 2 ^ 64) ∙ fits (c .args .a) (c .pre .1)), omega arith, omega arith, mod-lt (c .args .a * 2 ^ 10) (omega arith), omega arith)
+loop-holds c =
+    let a = c .args .a in
+    (ap (λ (x : ℕ). x * 4 ^ 53) (zero-add ((a * 2 ^ 10) % 2 ^ 64) ∙ fits a (c .pre .1)), omega arith, omega arith, mod-lt (a * 2 ^ 10) (omega arith), omega arith)
 
 digit-requires : tie.Need-digit-requires Inv-loop μ-loop
 digit-requires c κs =
@@ -61,9 +63,11 @@ loop-again : tie.Need-loop-again Inv-loop μ-loop
 loop-again c =
     let s = c .before .before .loop in
     let d = c .digit .ensures in
-    let t = c .before .loop-test .taken in (
-      subst (λ (N : ℕ). Left (c .before .before .before .args .a) N ((s .x * 2 ^ 2) % 2 ^ 64) (53 - (s .counter + 1))) (sym (d .is))
-          (two-more (c .before .before .before .args .a) (s .q * s .q + s .r) (s .x) (53 - (s .counter + 1)) (subst (Left (c .before .before .before .args .a) (s .q * s .q + s .r) (s .x)) (one-less (s .counter) t) (s .inv .0))),
+    let a = c .before .before .before .args .a in
+    let n = s .q * s .q + s .r in
+    let k = 53 - (s .counter + 1) in
+    let l = subst (Left a n (s .x)) (one-less (s .counter) (c .before .loop-test .taken)) (s .inv .0) in (
+      subst (λ (N : ℕ). Left a N ((s .x * 2 ^ 2) % 2 ^ 64) k) (sym (d .is)) (two-more a n (s .x) k l),
       d .rest,
       doubles (s .q) (c .digit .result .root) (s .counter) (s .inv .2) (d .longer),
       mod-lt (s .x * 2 ^ 2) (omega arith),
@@ -71,20 +75,31 @@ loop-again c =
     )
 
 -- the whole number's root, with its remainder, and that it is small
-whole-root : (c : tie.After-loop Inv-loop μ-loop) → (c .before .loop .q * c .before .loop .q + c .before .loop .r ≡ c .before .before .args .a * 4503599627370496) × (c .before .loop .r ≤ 2 * c .before .loop .q) × (c .before .loop .q < 2 ^ 53)
+whole-root : (c : tie.After-loop Inv-loop μ-loop) → let s = c .before .loop in
+    (s .q * s .q + s .r ≡ c .before .before .args .a * 4503599627370496) × (s .r ≤ 2 * s .q) × (s .q < 2 ^ 53)
 whole-root c =
     let s = c .before .loop in
+    let a = c .before .before .args .a in
+    let n = s .q * s .q + s .r in
     let z : s .counter ≡ 53 = omega (arith, c .loop-test .left, s .inv .4) in
-    (none-left (c .before .before .args .a) (s .q * s .q + s .r) (s .x) (s .inv .3) (subst (λ (k : ℕ). Left (c .before .before .args .a) (s .q * s .q + s .r) (s .x) (53 - k)) z (s .inv .0)), s .inv .1, subst (λ (k : ℕ). s .q < 2 ^ k) z (s .inv .2))
+    let l = subst (λ (k : ℕ). Left a n (s .x) (53 - k)) z (s .inv .0) in
+    (none-left a n (s .x) (s .inv .3) l, s .inv .1, subst (λ (k : ℕ). s .q < 2 ^ k) z (s .inv .2))
 
 add-result : tie.Need-add-result Inv-loop μ-loop
 add-result c = omega (arith, whole-root (c .before) .2)
 
 returns : tie.Need-returns Inv-loop μ-loop
-returns c = let w = whole-root (c .before) in let s = c .before .before .loop in nearest-up (c .before .before .before .args .a * 4503599627370496) (s .q) (s .r) (w .0) (w .1) (c .if1 .taken)
+returns c =
+    let w = whole-root (c .before) in
+    let s = c .before .before .loop in
+    nearest-up (c .before .before .before .args .a * 4503599627370496) (s .q) (s .r) (w .0) (w .1) (c .if1 .taken)
 
 returns-2 : tie.Need-returns-2 Inv-loop μ-loop
-returns-2 c = let w = whole-root (c .before) in let s = c .before .before .loop in nearest-down (c .before .before .before .args .a * 4503599627370496) (s .q) (s .r) (mul-pos (c .before .before .before .pre .0) (lit< tt)) (w .0) (c .if1 .left)
+returns-2 c =
+    let w = whole-root (c .before) in
+    let s = c .before .before .loop in
+    let o = c .before .before .before in
+    nearest-down (o .args .a * 4503599627370496) (s .q) (s .r) (mul-pos (o .pre .0) (lit< tt)) (w .0) (c .if1 .left)
 
 pub by-digits-spec : {M : Type 1} → statement M
 by-digits-spec = tie.close (tie.spec Inv-loop μ-loop loop-holds digit-requires add-counter loop-less loop-again add-result returns returns-2)

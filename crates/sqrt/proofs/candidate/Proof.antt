@@ -6,6 +6,7 @@ use mathlib.Core.Bool.{Bool, not}
 use lib.Dec.{T}
 use lib.Ieee.{Float, nan, inf, fin, binary64, add, sub, mul, div, neg, isNan, nanBits}
 use borrow.Author.Needs.{needs}
+use Rattle.number.specs.Operators.{_⊕_, _⊖_, _⊗_, _⊘_}
 use Rattle.sqrt.proofs.Pattern.{no-nan-bits}
 use Rattle.sqrt.proofs.candidate.Statement.{statement}
 use Rattle.sqrt.proofs.candidate.Tie as tie
@@ -14,7 +15,7 @@ number : (b : ℕ) → b ≤ 2047 * 2 ^ 52 → T (not (nanBits binary64 b))
 number b h = subst (λ (t : Bool). T (not t)) (sym (no-nan-bits b h)) tt
 
 -- what is left of a root cut to a NaN is a NaN
-stays : (cut k v near l : Float) → T (not (isNan (add binary64 (div binary64 (sub binary64 v (mul binary64 (sub binary64 cut k) (sub binary64 cut k))) (add binary64 (sub binary64 cut k) near)) l))) → T (not (isNan cut))
+stays : (cut k v near l : Float) → let s = cut ⊖ k in T (not (isNan ((v ⊖ s ⊗ s) ⊘ (s ⊕ near) ⊕ l))) → T (not (isNan cut))
 unfolding isNan add sub mul div neg
 stays nan k nan near l h = h
 stays nan k (inf s) near l h = h

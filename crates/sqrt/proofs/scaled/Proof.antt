@@ -36,7 +36,10 @@ small t z s =
 normal : (e t : ℕ) → (e ≡ 0 → ⊥) → e < 2047 → t < 4503599627370496 → IsScaled e t (t + 4503599627370496) (e + 1021)
 unfolding unitsOf
 normal zero t n h k = absurd (n refl)
-normal (suc e) t n h k = record { lo = omega arith; hi = omega arith; top = omega arith; is = sym (scaled (2 ^ 52 + t) e 0 (lit≤ tt) ∙ ap (λ (x : ℕ). x * 2 ^ (e + 1022 - 0 + 52)) (mul-one (2 ^ 52 + t) ∙ add-comm (2 ^ 52) t) ∙ ap (λ (x : ℕ). (t + 2 ^ 52) * 2 ^ x) (sum e)) }
+normal (suc e) t n h k =
+    let m = ap (λ (x : ℕ). x * 2 ^ (e + 1022 - 0 + 52)) (mul-one (2 ^ 52 + t) ∙ add-comm (2 ^ 52) t) in
+    let is = sym (scaled (2 ^ 52 + t) e 0 (lit≤ tt) ∙ m ∙ ap (λ (x : ℕ). (t + 2 ^ 52) * 2 ^ x) (sum e)) in
+    record { lo = omega arith; hi = omega arith; top = omega arith; is = is }
   where
     sum : (e : ℕ) → e + 1022 - 0 + 52 ≡ suc e + 1021 + 52
     sum e = omega arith

@@ -8,12 +8,12 @@ use lib.Arith.{lt→nleb}
 use lib.Pow.{field}
 use lib.Bits.{bitAnd, and-mask}
 use lib.Ieee.{Float, binary64, toBits, ofBits, fits, div}
-use lib.Ieee.Bits.{ofBits-toBits, toBits-lt, is-true, is-false}
+use lib.Ieee.Bits.{toBits-lt, is-true, is-false}
 use Rattle.sqrt.specs.Sqrt.{sqrtOf, roundRoot}
 use Rattle.number.proofs.Sign.{is-nan, no-nan}
-use Rattle.number.proofs.Values.{bits-is}
 use Rattle.sqrt.proofs.SquareRoot.{gives}
-use Rattle.sqrt.proofs.Fields.{at, zero-field, positive, infinite, negative}
+use Rattle.number.proofs.Fields.{at, fields}
+use Rattle.sqrt.proofs.Fields.{zero-field, positive, infinite, negative}
 use Rattle.sqrt.proofs.sqrt.Statement.{statement}
 use Rattle.sqrt.proofs.sqrt.Tie as tie
 
@@ -31,23 +31,29 @@ module _ (c : tie.Else1) where
   in-64 : b < 2 ^ 64
   in-64 = toBits-lt binary64 x held
 
-  exponent : bitAnd (b / 2 ^ 52) 2047 ≡ b % 2 ^ 63 / 2 ^ 52
+  abbrev e : ℕ
+  e = bitAnd (b / 2 ^ 52) 2047
+
+  abbrev t : ℕ
+  t = bitAnd b 4503599627370495
+
+  exponent : e ≡ b % 2 ^ 63 / 2 ^ 52
   exponent = and-mask (b / 2 ^ 52) 11 ∙ sym (field b 11 52)
 
-  fraction : bitAnd b 4503599627370495 ≡ b % 2 ^ 52
+  fraction : t ≡ b % 2 ^ 52
   fraction = and-mask b 52
 
-  exp-le : bitAnd (b / 2 ^ 52) 2047 ≤ 2047
+  exp-le : e ≤ 2047
   exp-le = omega (arith, and-mask (b / 2 ^ 52) 11)
 
-  is : x ≡ at (leb (2 ^ 63) b) (bitAnd (b / 2 ^ 52) 2047) (bitAnd b 4503599627370495)
-  is = sym (ofBits-toBits binary64 x held) ∙ bits-is b ∙ ap (λ (k : ℕ). at (leb (2 ^ 63) b) k (b % 2 ^ 52)) (sym exponent) ∙ ap (λ (k : ℕ). at (leb (2 ^ 63) b) (bitAnd (b / 2 ^ 52) 2047) k) (sym fraction)
+  is : x ≡ at (leb (2 ^ 63) b) e t
+  is = fields x held ∙ ap (λ (k : ℕ). at (leb (2 ^ 63) b) k (b % 2 ^ 52)) (sym exponent) ∙ ap (at (leb (2 ^ 63) b) e) (sym fraction)
 
-  is-neg : b / 2 ^ 63 ≡ 1 → x ≡ at true (bitAnd (b / 2 ^ 52) 2047) (bitAnd b 4503599627370495)
-  is-neg h = is ∙ ap (λ (s : Bool). at s (bitAnd (b / 2 ^ 52) 2047) (bitAnd b 4503599627370495)) (is-true (leb (2 ^ 63) b) (le→leb (2 ^ 63) b (omega arith)))
+  is-neg : b / 2 ^ 63 ≡ 1 → x ≡ at true e t
+  is-neg h = is ∙ ap (λ (s : Bool). at s e t) (is-true (leb (2 ^ 63) b) (le→leb (2 ^ 63) b (omega arith)))
 
-  is-pos : (b / 2 ^ 63 ≡ 1 → ⊥) → x ≡ at false (bitAnd (b / 2 ^ 52) 2047) (bitAnd b 4503599627370495)
-  is-pos h = is ∙ ap (λ (s : Bool). at s (bitAnd (b / 2 ^ 52) 2047) (bitAnd b 4503599627370495)) (is-false (leb (2 ^ 63) b) (lt→nleb (2 ^ 63) b (omega (arith, in-64))))
+  is-pos : (b / 2 ^ 63 ≡ 1 → ⊥) → x ≡ at false e t
+  is-pos h = is ∙ ap (λ (s : Bool). at s e t) (is-false (leb (2 ^ 63) b) (lt→nleb (2 ^ 63) b (omega (arith, in-64))))
 
 float-to-bits-bits : tie.Need-float-to-bits-bits
 float-to-bits-bits c = no-nan (c .before .args .x) (c .if1 .left)
@@ -56,7 +62,7 @@ add-if2 : tie.Need-add-if2
 add-if2 c = omega (arith, exp-le c, fraction c)
 
 scaled-requires : tie.Need-scaled-requires
-scaled-requires c κs = let t = c .before .before .before in omega (arith, c .if4 .left, c .before .before .if2 .left, fraction t, exp-le t)
+scaled-requires c κs = let d = c .before .before .before in omega (arith, c .if4 .left, c .before .before .if2 .left, fraction d, exp-le d)
 
 root-of-requires : tie.Need-root-of-requires
 root-of-requires c κs = let s = c .scaled .ensures in (s .lo, s .hi, s .top)
@@ -72,41 +78,35 @@ returns c =
 -- a zero
 returns-2 : tie.Need-returns-2
 returns-2 c =
-    let t = c .before in
-    let s = leb (2 ^ 63) (b t) in
-    let k = bitAnd (b t / 2 ^ 52) 2047 in
-    let f = bitAnd (b t) 4503599627370495 in
-    let z : (k ≡ 0) × (f ≡ 0) = (omega (arith, c .if2 .taken), omega (arith, c .if2 .taken)) in
-    let e : x t ≡ at s 0 0 = is t ∙ ap (λ (y : ℕ). at s y f) (z .0) ∙ ap (λ (y : ℕ). at s 0 y) (z .1) in
-    gives (x t) _ (held t) (e ∙ sym (zero-field s) ∙ sym (ap sqrtOf e))
+    let d = c .before in
+    let s = leb (2 ^ 63) (b d) in
+    let z : (e d ≡ 0) × (t d ≡ 0) = (omega (arith, c .if2 .taken), omega (arith, c .if2 .taken)) in
+    let q : x d ≡ at s 0 0 = is d ∙ ap (λ (y : ℕ). at s y (t d)) (z .0) ∙ ap (at s 0) (z .1) in
+    gives (x d) _ (held d) (q ∙ sym (zero-field s) ∙ sym (ap sqrtOf q))
 
 -- negative
 returns-3 : tie.Need-returns-3
 unfolding ofBits div
 returns-3 c =
-    let t = c .before .before in
-    gives (x t) _ (held t)
-    (sym (ap sqrtOf (is-neg t (c .if3 .taken)) ∙ negative (bitAnd (b t / 2 ^ 52) 2047) (bitAnd (b t) 4503599627370495) (exp-le t) (omega (arith, c .before .if2 .left))))
+    let d = c .before .before in
+    gives (x d) _ (held d) (sym (ap sqrtOf (is-neg d (c .if3 .taken)) ∙ negative (e d) (t d) (exp-le d) (omega (arith, c .before .if2 .left))))
 
 -- the infinity
 returns-4 : tie.Need-returns-4
 returns-4 c =
-    let t = c .before .before .before in
-    let f = bitAnd (b t) 4503599627370495 in
-    let e : x t ≡ at false 2047 f = is-pos t (c .before .if3 .left) ∙ ap (λ (k : ℕ). at false k f) (c .if4 .taken) in
-    gives (x t) _ (held t) (e ∙ sym (infinite f) ∙ sym (ap sqrtOf e))
+    let d = c .before .before .before in
+    let q : x d ≡ at false 2047 (t d) = is-pos d (c .before .if3 .left) ∙ ap (λ (k : ℕ). at false k (t d)) (c .if4 .taken) in
+    gives (x d) _ (held d) (q ∙ sym (infinite (t d)) ∙ sym (ap sqrtOf q))
 
 -- finite, and above zero
 returns-5 : tie.Need-returns-5
 returns-5 c =
     let s = c .before .before in
-    let t = s .before .before .before in
-    let f = bitAnd (b t) 4503599627370495 in
-    let k = bitAnd (b t / 2 ^ 52) 2047 in
-    gives (x t) _ (held t)
+    let d = s .before .before .before in
+    gives (x d) _ (held d)
     (c .root-of .ensures
     ∙ ap roundRoot (c .before .scaled .ensures .is)
-    ∙ sym (ap sqrtOf (is-pos t (s .before .if3 .left)) ∙ positive k f (omega (arith, exp-le t, s .if4 .left)) (omega (arith, s .before .before .if2 .left))))
+    ∙ sym (ap sqrtOf (is-pos d (s .before .if3 .left)) ∙ positive (e d) (t d) (omega (arith, exp-le d, s .if4 .left)) (omega (arith, s .before .before .if2 .left))))
 
 pub sqrt-spec : {M : Type 1} → statement M
 sqrt-spec = tie.close (tie.spec returns float-to-bits-bits add-if2 scaled-requires root-of-requires returns-2 returns-3 returns-4 returns-5)

@@ -1,5 +1,5 @@
 use borrow.Author.Tests.{ne-eqb}
-use Rattle.fdlibm.specs.Arctangent.{farOf}
+use Rattle.arctangent.specs.Arctangent.{farOf}
 use Rattle.number.proofs.Sign.{ne-self}
 use Rattle.arctangent.proofs.arctangent.atan_far.Statement.{statement}
 use Rattle.arctangent.proofs.arctangent.atan_far.Tie as tie

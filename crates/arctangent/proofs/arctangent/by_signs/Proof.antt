@@ -1,5 +1,5 @@
 use borrow.Author.Tests.{ne-eqb}
-use Rattle.fdlibm.specs.Arctangent.{bySigns}
+use Rattle.arctangent.specs.Arctangent.{bySigns}
 use Rattle.arctangent.proofs.arctangent.by_signs.Statement.{statement}
 use Rattle.arctangent.proofs.arctangent.by_signs.Tie as tie
 

@@ -1,7 +1,6 @@
--- By that of `by_signs`.
 use borrow.Author.Needs.{needs}
 use borrow.Author.Tests.{ne-eqb}
-use Rattle.fdlibm.specs.Arctangent.{farAlong}
+use Rattle.arctangent.specs.Arctangent.{farAlong}
 use Rattle.arctangent.proofs.arctangent.far_along.Statement.{statement}
 use Rattle.arctangent.proofs.arctangent.far_along.Tie as tie
 

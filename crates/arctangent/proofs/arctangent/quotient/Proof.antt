@@ -1,7 +1,7 @@
 use borrow.Author.Needs.{needs}
-use borrow.Author.Tests.{lt-ltb, le-ltb, le-leb, lt-leb, ne-eqb}
+use borrow.Author.Tests.{le-leb, lt-leb, ne-eqb}
 use mathlib.Core.Logic.{⊎-elim}
-use Rattle.fdlibm.specs.Arctangent.{quotientOf}
+use Rattle.arctangent.specs.Arctangent.{quotientOf}
 use Rattle.arctangent.proofs.arctangent.quotient.Statement.{statement}
 use Rattle.arctangent.proofs.arctangent.quotient.Tie as tie
 
@@ -17,7 +17,7 @@ add-if3 c = search needs
 
 returns-2 : tie.Need-returns-2
 unfolding quotientOf
-returns-2 c = rw (lt-leb _ _ (c .before .before .if1 .left), c .before .if2 .taken, lt-ltb _ _ (c .if3 .taken))
+returns-2 c = rw (lt-leb _ _ (c .before .before .if1 .left), c .before .if2 .taken, c .if3 .taken)
 
 abs-requires : tie.Need-abs-requires
 abs-requires c κs = search needs
@@ -29,7 +29,7 @@ returns-3 : tie.Need-returns-3
 unfolding quotientOf
 returns-3 c =
     rw (c .atan .ensures, c .before .abs .ensures, lt-leb _ _ (c .before .before .before .if1 .left))
-    (⊎-elim (λ w. rw (w .0 .taken, le-ltb _ _ (w .1 .left))) (λ w. rw (ne-eqb _ _ (w .left))) (c .before .before .if2 .came))
+    (⊎-elim (λ w. rw (w .0 .taken, w .1 .left)) (λ w. rw (ne-eqb _ _ (w .left))) (c .before .before .if2 .came))
 
 pub quotient-spec : {M : Type 1} → statement M
 quotient-spec =

@@ -1,5 +1,5 @@
 use borrow.Author.Tests.{ne-eqb}
-use Rattle.fdlibm.specs.Arctangent.{upright}
+use Rattle.arctangent.specs.Arctangent.{upright}
 use Rattle.arctangent.proofs.arctangent.upright.Statement.{statement}
 use Rattle.arctangent.proofs.arctangent.upright.Tie as tie
 

@@ -1,0 +1,3 @@
+pub mod Truncation
+pub mod Computing
+pub mod Laws
