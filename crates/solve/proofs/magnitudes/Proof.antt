@@ -1,4 +1,4 @@
--- Each turn adds a magnitude.
+-- Each iteration adds a magnitude.
 use mathlib.Core.Path.{_≡_, refl, ap}
 use Prim.Native.Nat.{_-_, _≤_}
 use borrow.Author.Needs.{needs}

@@ -1,4 +1,4 @@
--- Each turn keeps the better row, and its entry.
+-- Each iteration keeps the better row, and its entry.
 use mathlib.Core.Path.{_≡_, refl}
 use Prim.Native.Nat.{_-_, _≤_, _<_}
 use borrow.Author.Needs.{needs}
