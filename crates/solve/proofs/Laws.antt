@@ -10,7 +10,8 @@ use Rattle.loops.proofs.Loop.{searched-again, searched-leave}
 use Rattle.number.specs.Operators.{_⊖_, _⊗_, _⊘_, _<?_}
 use Rattle.number.specs.Helpers.{absOf}
 use Rattle.solve.specs.Cramer.{cell, givesUp}
-use Rattle.solve.specs.Solve.{system, greaterOf, heldOf, better, factorOf, rowEliminated, eliminateRow, substituted, backRow, pivotOf, swapOf, eliminatedOf, sumOfMagnitudes, column, solving, solveOf, Solved, singular}
+use Rattle.solve.specs.Solve.{system, greaterOf, heldOf, better, factorOf, rowEliminated, eliminateRow, eliminatedOf, substituted, backRow}
+use Rattle.solve.specs.Solve.{pivotOf, swapOf, sumOfMagnitudes, column, solving, solveOf, Solved, singular}
 
 -- the better of two rows is a row
 pub better-below : (n : ℕ) (m : List (List Float)) (col row pivot : ℕ) {r : ℕ} → r ≡ better m col row pivot → row < n → pivot < n → r < n

@@ -78,24 +78,5 @@ returns c = ranged-done _ _ _ (c .loop-test .left) (c .before .loop .inv .0)
 pub back3-spec : {M : Type 1} → statement M
 back3-spec =
     tie.close
-    (tie.spec
-    Inv-loop
-    μ-loop
-    loop-holds
-    sub-row
-    mul-substitute3
-    array-copy-out-substitute3
-    add-substitute3
-    mul-substitute3-2
-    array-read-substitute3
-    substitute3-requires
-    mul-x
-    mul-x-2
-    index-1-x
-    index-2-x
-    mul-x-3
-    array-write-x
-    add-i
-    loop-less
-    loop-again
-    returns)
+    (tie.spec Inv-loop μ-loop loop-holds sub-row mul-substitute3 array-copy-out-substitute3 add-substitute3 mul-substitute3-2
+    array-read-substitute3 substitute3-requires mul-x mul-x-2 index-1-x index-2-x mul-x-3 array-write-x add-i loop-less loop-again returns)

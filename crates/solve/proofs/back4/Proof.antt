@@ -78,24 +78,5 @@ returns c = ranged-done _ _ _ (c .loop-test .left) (c .before .loop .inv .0)
 pub back4-spec : {M : Type 1} → statement M
 back4-spec =
     tie.close
-    (tie.spec
-    Inv-loop
-    μ-loop
-    loop-holds
-    sub-row
-    mul-substitute4
-    array-copy-out-substitute4
-    add-substitute4
-    mul-substitute4-2
-    array-read-substitute4
-    substitute4-requires
-    mul-x
-    mul-x-2
-    index-1-x
-    index-2-x
-    mul-x-3
-    array-write-x
-    add-i
-    loop-less
-    loop-again
-    returns)
+    (tie.spec Inv-loop μ-loop loop-holds sub-row mul-substitute4 array-copy-out-substitute4 add-substitute4 mul-substitute4-2
+    array-read-substitute4 substitute4-requires mul-x mul-x-2 index-1-x index-2-x mul-x-3 array-write-x add-i loop-less loop-again returns)

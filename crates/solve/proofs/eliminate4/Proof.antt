@@ -104,33 +104,7 @@ returns c = ranged-done _ _ _ (c .loop-test .left) (c .before .loop .inv .0)
 pub eliminate4-spec : {M : Type 1} → statement M
 eliminate4-spec =
     tie.close
-    (tie.spec
-    Inv-loop
-    μ-loop
-    add-row
-    loop-holds
-    mul-factor
-    mul-factor-2
-    index-1-factor
-    index-2-factor
-    mul-factor-3
-    mul-factor-4
-    index-1-factor-2
-    index-2-factor-2
-    mul-eliminate-row4
-    array-copy-out-eliminate-row4
-    mul-eliminate-row4-2
-    array-copy-out-eliminate-row4-2
-    eliminate-row4-requires
-    mul-m
-    array-set-from-m
-    mul-b
-    element-copy-out-b
-    mul-b-2
-    element-copy-out-b-2
-    mul-b-3
-    element-write-b
-    add-row-2
-    loop-less
-    loop-again
-    returns)
+    (tie.spec Inv-loop μ-loop add-row loop-holds mul-factor mul-factor-2 index-1-factor index-2-factor mul-factor-3 mul-factor-4
+    index-1-factor-2 index-2-factor-2 mul-eliminate-row4 array-copy-out-eliminate-row4 mul-eliminate-row4-2 array-copy-out-eliminate-row4-2
+    eliminate-row4-requires mul-m array-set-from-m mul-b element-copy-out-b mul-b-2 element-copy-out-b-2 mul-b-3 element-write-b add-row-2
+    loop-less loop-again returns)

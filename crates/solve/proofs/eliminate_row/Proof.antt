@@ -57,18 +57,5 @@ returns c = ranged-done _ _ _ (c .loop-test .left) (c .before .loop .inv .0)
 pub eliminate-row-spec : {M : Type 1} → statement M
 eliminate-row-spec =
     tie.close
-    (tie.spec
-    Inv-loop
-    μ-loop
-    loop-holds
-    mul-row
-    slice-read-row
-    mul-row-2
-    shared-slice-read-row
-    mul-row-3
-    slice-write-row
-    add-k
-    loop-less
-    loop-again
-    same-length
-    returns)
+    (tie.spec Inv-loop μ-loop loop-holds mul-row slice-read-row mul-row-2 shared-slice-read-row mul-row-3 slice-write-row add-k loop-less
+    loop-again same-length returns)

@@ -45,17 +45,4 @@ returns : tie.Need-returns Inv-loop μ-loop
 returns c = ranged-done _ _ _ (c .loop-test .left) (c .before .loop .inv .0)
 
 pub substitute-spec : {M : Type 1} → statement M
-substitute-spec =
-    tie.close
-    (tie.spec
-    Inv-loop
-    μ-loop
-    loop-holds
-    mul-acc
-    shared-slice-read-acc
-    mul-acc-2
-    shared-slice-read-acc-2
-    add-k
-    loop-less
-    loop-again
-    returns)
+substitute-spec = tie.close (tie.spec Inv-loop μ-loop loop-holds mul-acc shared-slice-read-acc mul-acc-2 shared-slice-read-acc-2 add-k loop-less loop-again returns)
