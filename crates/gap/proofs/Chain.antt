@@ -1,7 +1,8 @@
 -- The arithmetic of the gap's error, on plain numbers: K is 2 ^ 53, J is K - 1, L is 2 ^ 1074, h is 2 ^ 52.
 use mathlib.Core.Path.{_≡_, sym}
 use Prim.Native.Nat.{ℕ, _+_, _-_, _*_, _^_, _≤_}
-use native.Mathlib.Nat.{le-refl, le-trans, le-of-eq, mul-comm, mul-assoc, mul-left-comm, mul-right-comm, mul-le-mul, mul-le-mul-right, mul-le-mul-left, le-of-mul-le-mul-right, mul-one, add-le-add, add-mul, mul-add}
+use native.Mathlib.Nat.{le-refl, le-trans, le-of-eq, mul-le-mul, mul-le-mul-right, mul-le-mul-left, le-of-mul-le-mul-right, add-le-add}
+use native.Mathlib.Nat.{mul-comm, mul-assoc, mul-left-comm, mul-right-comm, mul-one, add-mul, mul-add}
 use native.Mathlib.Omega.{arith}
 use lib.Dec.{lit≤, lit<}
 
@@ -79,7 +80,8 @@ module _ (T C : ℕ) (big : 2 ^ 1034 ≤ C) (c : T * (J * J * J * (J * J)) ≤ C
       (le-trans (le-of-eq (add-mul (C * C * ((K + 1) * (K + 1)) * (K * (K * K))) (3 * (L * h * (K * K) * (J * J))) K))
       (le-trans (add-le-add (le-of-eq (re (C * C) ((K + 1) * (K + 1)) (K * (K * K)) K)) lost)
       (le-trans (le-of-eq (sym (mul-add (C * C) ((K + 1) * (K + 1) * (K * (K * K)) * K) 1)))
-      (le-trans (mul-le-mul-left (C * C) (lit≤ {m = (K + 1) * (K + 1) * (K * (K * K)) * K + 1} {n = (K + 8) * (J * J * J * (J * J))} tt)) (le-of-eq (sym (mul-assoc (C * C) (K + 8) (J * J * J * (J * J)))))))))))
+      (le-trans (mul-le-mul-left (C * C) (lit≤ {m = (K + 1) * (K + 1) * (K * (K * K)) * K + 1} {n = (K + 8) * (J * J * J * (J * J))} tt))
+      (le-of-eq (sym (mul-assoc (C * C) (K + 8) (J * J * J * (J * J)))))))))))
       (lit< tt)
     where
       re : (c a b k : ℕ) → c * a * b * k ≡ c * (a * b * k)

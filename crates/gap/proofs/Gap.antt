@@ -109,34 +109,38 @@ module _ (ax ay az bx by bz c : Float) (hc : T (finite c)) (l : T (sqrtOf (squar
   finite-z : T (finite az) × T (finite bz)
   finite-z = sub-finite az bz (mul-finite dz dz (last-two .1) .0)
 
-  module _ (fax : T (fits binary64 ax)) (fay : T (fits binary64 ay)) (faz : T (fits binary64 az)) (fbx : T (fits binary64 bx)) (fby : T (fits binary64 by)) (fbz : T (fits binary64 bz)) (big : 2 ^ 1034 ≤ mag c) where
-    law : 2 ^ 50 * (squareOf (between ax bx) + squareOf (between ay by) + squareOf (between az bz)) ≤ (2 ^ 50 + 1) * (mag c * mag c)
-    unfolding squares
-    law =
-        let px = squared dx (sub-fits binary64 ax bx) (first-two .0) in
-        let py = squared dy (sub-fits binary64 ay by) (first-two .1) in
-        let pz = squared dz (sub-fits binary64 az bz) (last-two .1) in
-        let e1 = sum-over (dx ⊗ dx) (dy ⊗ dy) (mag (dx ⊗ dx)) (mag (dy ⊗ dy)) (px .is) (py .is) (last-two .0) in
-        let e2 = sum-over s1 (dz ⊗ dz) (mag s1) (mag (dz ⊗ dz)) (e1 .0) (pz .is) (under .finite-x) in
-        let ns = not-neg s (mag s) (e2 .0) in
-        let fs = add-fits binary64 s1 (dz ⊗ dz) in
-        let g = sqrt-rooted s fs (under .finite-x) ns in
-        let total = squareOf (between ax bx) + squareOf (between ay by) + squareOf (between az bz) in
-        eighth total (mag c * mag c)
-        (final total (mag c) big
-        (chain (between ax bx) (between ay by) (between az bz) (mag dx) (mag dy) (mag dz) (mag (dx ⊗ dx)) (mag (dy ⊗ dy)) (mag (dz ⊗ dz)) (mag s1) (mag s) (mag (sqrtOf s)) (mag c) (2 ^ 53) (2 ^ 53 - 1) unitsInOne (2 ^ 52)
-        (lit≤ tt)
-        (difference-over ax bx fax fbx (mul-finite dx dx (first-two .0) .0)) (difference-over ay by fay fby (mul-finite dy dy (first-two .1) .0)) (difference-over az bz faz fbz (mul-finite dz dz (last-two .1) .0))
-        (px .over) (py .over) (pz .over) (e1 .1) (e2 .1) (g .over) (le→mag (sqrtOf s) c (under .finite-root) hc (sqrt-sign s fs (under .finite-x) ns) l)))
+  module _ (fax : T (fits binary64 ax)) (fay : T (fits binary64 ay)) (faz : T (fits binary64 az))
+      (fbx : T (fits binary64 bx)) (fby : T (fits binary64 by)) (fbz : T (fits binary64 bz)) (big : 2 ^ 1034 ≤ mag c)
+    where
+      law : 2 ^ 50 * (squareOf (between ax bx) + squareOf (between ay by) + squareOf (between az bz)) ≤ (2 ^ 50 + 1) * (mag c * mag c)
+      unfolding squares
+      law =
+          let px = squared dx (sub-fits binary64 ax bx) (first-two .0) in
+          let py = squared dy (sub-fits binary64 ay by) (first-two .1) in
+          let pz = squared dz (sub-fits binary64 az bz) (last-two .1) in
+          let e1 = sum-over (dx ⊗ dx) (dy ⊗ dy) (mag (dx ⊗ dx)) (mag (dy ⊗ dy)) (px .is) (py .is) (last-two .0) in
+          let e2 = sum-over s1 (dz ⊗ dz) (mag s1) (mag (dz ⊗ dz)) (e1 .0) (pz .is) (under .finite-x) in
+          let ns = not-neg s (mag s) (e2 .0) in
+          let fs = add-fits binary64 s1 (dz ⊗ dz) in
+          let g = sqrt-rooted s fs (under .finite-x) ns in
+          let total = squareOf (between ax bx) + squareOf (between ay by) + squareOf (between az bz) in
+          eighth total (mag c * mag c)
+          (final total (mag c) big
+          (chain (between ax bx) (between ay by) (between az bz) (mag dx) (mag dy) (mag dz) (mag (dx ⊗ dx)) (mag (dy ⊗ dy)) (mag (dz ⊗ dz))
+          (mag s1) (mag s) (mag (sqrtOf s)) (mag c) (2 ^ 53) (2 ^ 53 - 1) unitsInOne (2 ^ 52)
+          (lit≤ tt)
+          (difference-over ax bx fax fbx (mul-finite dx dx (first-two .0) .0))
+          (difference-over ay by fay fby (mul-finite dy dy (first-two .1) .0))
+          (difference-over az bz faz fbz (mul-finite dz dz (last-two .1) .0))
+          (px .over) (py .over) (pz .over) (e1 .1) (e2 .1) (g .over) (le→mag (sqrtOf s) c (under .finite-root) hc (sqrt-sign s fs (under .finite-x) ns) l)))
 
 -- ---- for two points
 
 exact-is : (p q : Point3D) → exactSquare p q ≡ squareOf (between (p .x) (q .x)) + squareOf (between (p .y) (q .y)) + squareOf (between (p .z) (q .z))
 unfolding exactSquare
 exact-is p q =
-    ap (λ (k : ℕ). squareOf k + squareOf (natAbs (inUnits (p .y) -ℤ inUnits (q .y))) + squareOf (natAbs (inUnits (p .z) -ℤ inUnits (q .z)))) (apart-is (neg? (p .x)) (neg? (q .x)) (mag (p .x)) (mag (q .x)))
-    ∙ ap (λ (k : ℕ). squareOf (between (p .x) (q .x)) + squareOf k + squareOf (natAbs (inUnits (p .z) -ℤ inUnits (q .z)))) (apart-is (neg? (p .y)) (neg? (q .y)) (mag (p .y)) (mag (q .y)))
-    ∙ ap (λ (k : ℕ). squareOf (between (p .x) (q .x)) + squareOf (between (p .y) (q .y)) + squareOf k) (apart-is (neg? (p .z)) (neg? (q .z)) (mag (p .z)) (mag (q .z)))
+    let units : (a b : Float) → natAbs (inUnits a -ℤ inUnits b) ≡ between a b = λ a b. apart-is (neg? a) (neg? b) (mag a) (mag b) in
+    rw (units (p .x) (q .x), units (p .y) (q .y), units (p .z) (q .z))
 
 turned : (p q : Point3D) (c : Float) → T (distanceOf p q ≤? c) → T (sqrtOf (squares (p .x ⊖ q .x) (p .y ⊖ q .y) (p .z ⊖ q .z)) ≤? c)
 unfolding distanceOf squares
@@ -184,5 +188,7 @@ exact-gap p q c fp fq low high l =
 pub fit-tolerance : (t : Tolerance) → T (toleranceFit t) → T (leastConfusion ≤? t .confusion) × T (t .confusion ≤? one)
 unfolding toleranceFit
 fit-tolerance t h =
-    let rest = and-r (leastConfusion ≤? t .confusion) (t .confusion ≤? one && (bits 0 ≤? t .angular && t .angular ≤? one)) h in
-    (and-l (leastConfusion ≤? t .confusion) (t .confusion ≤? one && (bits 0 ≤? t .angular && t .angular ≤? one)) h, and-l (t .confusion ≤? one) (bits 0 ≤? t .angular && t .angular ≤? one) rest)
+    let least = leastConfusion ≤? t .confusion in
+    let most = t .confusion ≤? one in
+    let angular = bits 0 ≤? t .angular && t .angular ≤? one in
+    (and-l least (most && angular) h, and-l most angular (and-r least (most && angular) h))

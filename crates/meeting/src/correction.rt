@@ -113,7 +113,7 @@ fn free_correction(c: Columns, f: Vector3D) -> Correction
     ensures { λ r. ⌜ r ≡ freeCorrection c f ⌝ }
 {
     let m = normal_matrix(c);
-    let solved = solve::solve_3x3(m, [-f.x, -f.y, -f.z], 1e-12);
+    let solved = solve::solve_3x3(m, [-f.x, -f.y, -f.z], solve::SOLVER_TOL);
     match solved {
         Solved3::Singular => Correction::Singular,
         Solved3::Solution(s) => {
@@ -146,7 +146,7 @@ fn plane_correction(c: Columns, normal: Vector3D, f: Vector3D, r: f64) -> Correc
         [p.z, q.z, s.z, t.z],
         [p.dot(normal), q.dot(normal), 0.0, 0.0],
     ];
-    let solved = solve::solve_4x4(m, [-f.x, -f.y, -f.z, -r], 1e-12);
+    let solved = solve::solve_4x4(m, [-f.x, -f.y, -f.z, -r], solve::SOLVER_TOL);
     match solved {
         Solved4::Singular => Correction::Singular,
         Solved4::Solution(d) => Correction::By(Parameters {
@@ -211,7 +211,7 @@ fn pin_correction(c: Columns, pin: usize, f: Vector3D) -> Correction
     let q = column(c, free(pin, 1));
     let s = column(c, free(pin, 2));
     let m = [[p.x, q.x, s.x], [p.y, q.y, s.y], [p.z, q.z, s.z]];
-    let solved = solve::solve_3x3(m, [-f.x, -f.y, -f.z], 1e-12);
+    let solved = solve::solve_3x3(m, [-f.x, -f.y, -f.z], solve::SOLVER_TOL);
     match solved {
         Solved3::Singular => Correction::Singular,
         Solved3::Solution(d) => Correction::By(placed(pin, d)),

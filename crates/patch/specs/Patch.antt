@@ -1,5 +1,6 @@
 -- Fitness of a patch (refusals 1 to 4), and the windows that apply. Definitions only.
 use mathlib.Core.Bool.{Bool, true, false, _&&_}
+use mathlib.Core.List.{[], _∷_}
 use lib.Ieee.{Float}
 use Rattle.loops.specs.Loop.{pick}
 use Rattle.number.specs.Operators.{bits, _<?_, _≤?_}
@@ -15,7 +16,7 @@ use Rattle.patch.specs.declared.patch.Window.{Window}
 use Rattle.patch.specs.declared.patch.Patch.{Patch}
 use Rattle.patch.specs.declared.patch.Parameters.{Parameters}
 use Rattle.refusal.specs.declared.Verdict.{Verdict}
-use Rattle.refusal.specs.declared.Verdict.the-variants.{Passed, Refused}
+use Rattle.refusal.specs.Verdict.{asked, firstRefusal}
 
 -- ---- 1: "a number of the frame or a size is not finite, or above 2^20 in magnitude"
 
@@ -94,17 +95,14 @@ markFit turn angle = pick turn angle true
 -- ---- "1 to 4", in that order
 unfoldable pub fitnessOf : Patch → Verdict
 fitnessOf p =
-    pick (numbersFit (p .surface))
-    (pick (sizesFit (p .surface))
-    (pick (windowFit (p .u))
-    (pick (windowFit (p .v))
-    (pick (markFit (p .u .turn) (uIsAngle (p .surface)))
-    (pick (markFit (p .v .turn) (vIsAngle (p .surface))) Passed (Refused TurnMark))
-    (Refused TurnMark))
-    (Refused Refusal.Window))
-    (Refused Refusal.Window))
-    (Refused Size))
-    (Refused Number)
+    firstRefusal
+    (asked (numbersFit (p .surface)) Number
+    ∷ asked (sizesFit (p .surface)) Size
+    ∷ asked (windowFit (p .u)) Refusal.Window
+    ∷ asked (windowFit (p .v)) Refusal.Window
+    ∷ asked (markFit (p .u .turn) (uIsAngle (p .surface))) TurnMark
+    ∷ asked (markFit (p .v .turn) (vIsAngle (p .surface))) TurnMark
+    ∷ [])
 
 -- ---- the windows that apply: "its window is tested by 3, then not applied"
 

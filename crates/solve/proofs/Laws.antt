@@ -1,4 +1,4 @@
--- What one turn of each loop computes, for any size n, and what the solvers' loop does in a column.
+-- What one iteration of each loop computes, for any size n, and what the solvers' loop does in a column.
 use mathlib.Core.Path.{_≡_, refl}
 use mathlib.Core.List.{List, []}
 use mathlib.Core.Bool.{Bool, true, false}
@@ -10,7 +10,8 @@ use Rattle.loops.proofs.Loop.{searched-again, searched-leave}
 use Rattle.number.specs.Operators.{_⊖_, _⊗_, _⊘_, _<?_}
 use Rattle.number.specs.Helpers.{absOf}
 use Rattle.solve.specs.Cramer.{cell, givesUp}
-use Rattle.solve.specs.Solve.{system, greaterOf, heldOf, better, factorOf, rowReduced, clearRow, substituted, backRow, pivotOf, swapOf, clearedOf, sumOfMagnitudes, column, solving, solveOf, Answer, singular}
+use Rattle.solve.specs.Solve.{system, greaterOf, heldOf, better, factorOf, rowEliminated, eliminateRow, eliminatedOf, substituted, backRow}
+use Rattle.solve.specs.Solve.{pivotOf, swapOf, sumOfMagnitudes, column, solving, solveOf, Solved, singular}
 
 -- the better of two rows is a row
 pub better-below : (n : ℕ) (m : List (List Float)) (col row pivot : ℕ) {r : ℕ} → r ≡ better m col row pivot → row < n → pivot < n → r < n
@@ -34,11 +35,11 @@ module _ (m : List (List Float)) (col row pivot : ℕ) {held : Float} {r : ℕ} 
         go true = refl
         go false = refl
 
--- a row is cleared, and its right side follows
-pub row-cleared : (n col row : ℕ) (m : List (List Float)) (b : List Float) {r : List Float}
-    → r ≡ rowReduced n (getD m row []) (getD m col []) (factorOf m col row) col
-    → system (set m row r) (set b row (getD b row nan ⊖ factorOf m col row ⊗ getD b col nan)) ≡ clearRow n col row (system m b)
-row-cleared n col row m b e = rw e
+-- a row is eliminated, and its right side follows
+pub row-eliminated : (n col row : ℕ) (m : List (List Float)) (b : List Float) {r : List Float}
+    → r ≡ rowEliminated n (getD m row []) (getD m col []) (factorOf m col row) col
+    → system (set m row r) (set b row (getD b row nan ⊖ factorOf m col row ⊗ getD b col nan)) ≡ eliminateRow n col row (system m b)
+row-eliminated n col row m b e = rw e
 
 -- an entry of the solution is found
 pub row-solved : (n row : ℕ) (m : List (List Float)) (b x : List Float) {acc : Float}
@@ -63,7 +64,7 @@ module _
     {right : List Float}
     {p : ℕ}
     {t : Bool}
-    {a : Answer}
+    {a : Solved}
     (below : col < n)
     (i : solving n tol scale col (system m b) ≡ a)
     (ep : p ≡ pivotOf n m col)
@@ -71,11 +72,11 @@ module _
     (es : right ≡ swapOf nan b col p)
     (et : t ≡ givesUp (cell rows col col) tol scale)
   where
-    at-pivot : {u : Bool} → t ≡ u → column n tol scale col (system m b) ≡ pick u (out singular) (on (clearedOf n col (system rows right)))
+    at-pivot : {u : Bool} → t ≡ u → column n tol scale col (system m b) ≡ pick u (out singular) (on (eliminatedOf n col (system rows right)))
     at-pivot h = rw (es, ← h, et, er, ep)
 
-    -- the rows below are cleared, and the next column's turn comes
-    pub goes-on : {next : List (List Float)} {side : List Float} → t ≡ false → system next side ≡ clearedOf n col (system rows right)
+    -- the rows below are eliminated, and the next column follows
+    pub goes-on : {next : List (List Float)} {side : List Float} → t ≡ false → system next side ≡ eliminatedOf n col (system rows right)
         → solving n tol scale (col + 1) (system next side) ≡ a
     goes-on {next} {side} h e =
         let step : column n tol scale col (system m b) ≡ on (system next side) = rw e (at-pivot h) in

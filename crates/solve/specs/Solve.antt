@@ -58,8 +58,8 @@ abbrev pub entryReduced : List Float → Float → ℕ → List Float → List F
 entryReduced pivot factor k row = set row k (getD row k nan ⊖ factor ⊗ getD pivot k nan)
 
 -- a row less factor times the pivot's row, from column col on
-abbrev pub rowReduced : ℕ → List Float → List Float → Float → ℕ → List Float
-rowReduced n row pivot factor col = ranged (entryReduced pivot factor) col n row
+abbrev pub rowEliminated : ℕ → List Float → List Float → Float → ℕ → List Float
+rowEliminated n row pivot factor col = ranged (entryReduced pivot factor) col n row
 
 -- a matrix, and the right side beside it
 pub record System : Type 0 where
@@ -75,15 +75,15 @@ abbrev pub factorOf : List (List Float) → ℕ → ℕ → Float
 factorOf m col row = cell m row col ⊘ cell m col col
 
 -- a row below col, and its right side, less factor times those of the pivot
-abbrev pub clearRow : ℕ → ℕ → ℕ → System → System
-clearRow n col row s =
+abbrev pub eliminateRow : ℕ → ℕ → ℕ → System → System
+eliminateRow n col row s =
     system
-    (set (s .rows) row (rowReduced n (getD (s .rows) row []) (getD (s .rows) col []) (factorOf (s .rows) col row) col))
+    (set (s .rows) row (rowEliminated n (getD (s .rows) row []) (getD (s .rows) col []) (factorOf (s .rows) col row) col))
     (set (s .right) row (getD (s .right) row nan ⊖ factorOf (s .rows) col row ⊗ getD (s .right) col nan))
 
 -- all rows below col, one after the other
-abbrev pub clearedOf : ℕ → ℕ → System → System
-clearedOf n col s = ranged (clearRow n col) (col + 1) n s
+abbrev pub eliminatedOf : ℕ → ℕ → System → System
+eliminatedOf n col s = ranged (eliminateRow n col) (col + 1) n s
 
 -- the pivot of column col in its place
 abbrev pub swappedOf : ℕ → ℕ → System → System
@@ -102,7 +102,7 @@ abbrev pub backRow : ℕ → System → ℕ → List Float → List Float
 backRow n s row x =
     set x row (substituted n (getD (s .rows) row []) x (row + 1) (getD (s .right) row nan) ⊘ cell (s .rows) row row)
 
--- turn i of `for row in (0..N).rev()`
+-- iteration i of `for row in (0..N).rev()`
 abbrev pub backBody : ℕ → System → ℕ → List Float → List Float
 backBody n s i x = backRow n s (n - 1 - i) x
 
@@ -111,30 +111,30 @@ abbrev pub backSubstitution : ℕ → System → List Float
 backSubstitution n s = ranged (backBody n s) 0 n (replicate n (bits 0))
 
 -- the answer of `solve_square`: the solution, or that a column had no pivot (`None`)
-pub data Answer : Type 0 where
-  solution : List Float → Answer
-  singular : Answer
+pub data Solved : Type 0 where
+  solution : List Float → Solved
+  singular : Solved
 
 -- one column of `solve_square`: the only place where it gives up
-abbrev pub column : ℕ → Float → Float → ℕ → System → Flow System Answer
+abbrev pub column : ℕ → Float → Float → ℕ → System → Flow System Solved
 column n tol scale col s =
-    pick (givesUp (cell (swappedOf n col s .rows) col col) tol scale) (out singular) (on (clearedOf n col (swappedOf n col s)))
+    pick (givesUp (cell (swappedOf n col s .rows) col col) tol scale) (out singular) (on (eliminatedOf n col (swappedOf n col s)))
 
 -- the columns from col on, then back substitution
-abbrev pub solving : ℕ → Float → Float → ℕ → System → Answer
+abbrev pub solving : ℕ → Float → Float → ℕ → System → Solved
 solving n tol scale col s = searched (column n tol scale) (λ t. solution (backSubstitution n t)) col n (on s)
 
 -- `solve_square`
-unfoldable pub solveOf : ℕ → List (List Float) → List Float → Float → Answer
+unfoldable pub solveOf : ℕ → List (List Float) → List Float → Float → Solved
 solveOf n m b tol = solving n tol (sumOfMagnitudes n m) 0 (system m b)
 
 -- the answer for three unknowns, the solution's entries by name
-abbrev pub answer3 : Answer → Solved3
+abbrev pub answer3 : Solved → Solved3
 answer3 (solution x) = solved3.Solution (record { x0 = getD x 0 nan; x1 = getD x 1 nan; x2 = getD x 2 nan })
 answer3 singular = solved3.Singular
 
 -- the same for four unknowns
-abbrev pub answer4 : Answer → Solved4
+abbrev pub answer4 : Solved → Solved4
 answer4 (solution x) =
     solved4.Solution (record { x0 = getD x 0 nan; x1 = getD x 1 nan; x2 = getD x 2 nan; x3 = getD x 3 nan })
 answer4 singular = solved4.Singular

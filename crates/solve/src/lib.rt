@@ -10,7 +10,10 @@ ghost use mathlib.Core.List.{[]};
 ghost use lib.Ieee.{nan};
 ghost use lib.ListN.{length};
 ghost use Prim.Native.Nat.{_<_, _≤_};
-ghost use Rattle.solve.specs.Solve.{solve3Of, solve4Of, magnitudesOf, sumOfMagnitudes, greaterOf, heldOf, pivotOf, swapOf, rowReduced, system, clearedOf, substituted, backSubstitution};
+ghost use Rattle.solve.specs.Solve.{solve3Of, solve4Of, magnitudesOf, sumOfMagnitudes, greaterOf, heldOf, pivotOf, swapOf, rowEliminated, system, eliminatedOf, substituted, backSubstitution};
+
+// The tolerance of the walk's solves; the solvers take any.
+pub const SOLVER_TOL: f64 = 1e-12;
 
 // The unknowns, from the first on.
 pub struct Solution3 {
@@ -72,9 +75,9 @@ fn greater(held: f64, entry: f64, pivot: usize, row: usize) -> Held
 }
 
 // The row less factor times the pivot's row, from column col on.
-fn clear(row: &mut [f64], pivot: &[f64], n: usize, factor: f64, col: usize)
+fn eliminate_row(row: &mut [f64], pivot: &[f64], n: usize, factor: f64, col: usize)
     requires { ⌜ (n ≤ length (now row)) × ((n ≤ length (now pivot)) × (col ≤ n)) ⌝ }
-    ensures { λ _. ⌜ now (row .exit) ≡ rowReduced n (now (row .entry)) (now (pivot .entry)) factor col ⌝ }
+    ensures { λ _. ⌜ now (row .exit) ≡ rowEliminated n (now (row .entry)) (now (pivot .entry)) factor col ⌝ }
 {
     for k in col..n {
         row[k] = row[k] - factor * pivot[k];
@@ -82,7 +85,7 @@ fn clear(row: &mut [f64], pivot: &[f64], n: usize, factor: f64, col: usize)
 }
 
 // acc less the products of the row's entries and the solution's, from column `from` on.
-fn rest(row: &[f64], x: &[f64], n: usize, from: usize, acc: f64) -> f64
+fn substitute(row: &[f64], x: &[f64], n: usize, from: usize, acc: f64) -> f64
     requires { ⌜ (n ≤ length (now row)) × ((n ≤ length (now x)) × (from ≤ n)) ⌝ }
     ensures { λ r. ⌜ r ≡ substituted n (now (row .entry)) (now (x .entry)) from acc ⌝ }
 {
@@ -100,20 +103,20 @@ fn magnitudes3(row: [f64; 3], sum: f64) -> f64
     magnitudes(&row, 3, sum)
 }
 
-fn clear3(row: [f64; 3], pivot: [f64; 3], factor: f64, col: usize) -> [f64; 3]
+fn eliminate_row3(row: [f64; 3], pivot: [f64; 3], factor: f64, col: usize) -> [f64; 3]
     requires { ⌜ col < 3 ⌝ }
-    ensures { λ r. ⌜ r ≡ rowReduced 3 row pivot factor col ⌝ }
+    ensures { λ r. ⌜ r ≡ rowEliminated 3 row pivot factor col ⌝ }
 {
     let mut row = row;
-    clear(&mut row, &pivot, 3, factor, col);
+    eliminate_row(&mut row, &pivot, 3, factor, col);
     row
 }
 
-fn rest3(row: [f64; 3], x: [f64; 3], from: usize, acc: f64) -> f64
+fn substitute3(row: [f64; 3], x: [f64; 3], from: usize, acc: f64) -> f64
     requires { ⌜ from ≤ 3 ⌝ }
     ensures { λ r. ⌜ r ≡ substituted 3 row x from acc ⌝ }
 {
-    rest(&row, &x, 3, from, acc)
+    substitute(&row, &x, 3, from, acc)
 }
 
 // The sum of the magnitudes, row by row, from the zero that the Rust's `sum` starts from.
@@ -188,16 +191,16 @@ fn swap3(b: [f64; 3], i: usize, j: usize) -> [f64; 3]
     }
 }
 
-// The matrix with the rows below col cleared in column col; the right side follows in place.
+// Elimination in column col: the matrix with the rows below col reduced; the right side follows in place.
 fn eliminate3(m: [[f64; 3]; 3], b: &mut [f64; 3], col: usize) -> [[f64; 3]; 3]
     requires { ⌜ col < 3 ⌝ }
-    ensures { λ r. ⌜ system r (now (b .exit)) ≡ clearedOf 3 col (system m (now (b .entry))) ⌝ }
+    ensures { λ r. ⌜ system r (now (b .exit)) ≡ eliminatedOf 3 col (system m (now (b .entry))) ⌝ }
 {
     let mut m = m;
     for row in col + 1..3 {
         let factor = m[row][col] / m[col][col];
-        let cleared = clear3(m[row], m[col], factor, col);
-        m[row] = cleared;
+        let reduced = eliminate_row3(m[row], m[col], factor, col);
+        m[row] = reduced;
         b[row] = b[row] - factor * b[col];
     }
     m
@@ -210,7 +213,7 @@ fn back3(m: [[f64; 3]; 3], b: [f64; 3]) -> [f64; 3]
     let mut x = [0.0; 3];
     for i in 0..3 {
         let row = 2 - i;
-        let acc = rest3(m[row], x, row + 1, b[row]);
+        let acc = substitute3(m[row], x, row + 1, b[row]);
         x[row] = acc / m[row][row];
     }
     x
@@ -258,20 +261,20 @@ fn magnitudes4(row: [f64; 4], sum: f64) -> f64
     magnitudes(&row, 4, sum)
 }
 
-fn clear4(row: [f64; 4], pivot: [f64; 4], factor: f64, col: usize) -> [f64; 4]
+fn eliminate_row4(row: [f64; 4], pivot: [f64; 4], factor: f64, col: usize) -> [f64; 4]
     requires { ⌜ col < 4 ⌝ }
-    ensures { λ r. ⌜ r ≡ rowReduced 4 row pivot factor col ⌝ }
+    ensures { λ r. ⌜ r ≡ rowEliminated 4 row pivot factor col ⌝ }
 {
     let mut row = row;
-    clear(&mut row, &pivot, 4, factor, col);
+    eliminate_row(&mut row, &pivot, 4, factor, col);
     row
 }
 
-fn rest4(row: [f64; 4], x: [f64; 4], from: usize, acc: f64) -> f64
+fn substitute4(row: [f64; 4], x: [f64; 4], from: usize, acc: f64) -> f64
     requires { ⌜ from ≤ 4 ⌝ }
     ensures { λ r. ⌜ r ≡ substituted 4 row x from acc ⌝ }
 {
-    rest(&row, &x, 4, from, acc)
+    substitute(&row, &x, 4, from, acc)
 }
 
 fn scale4(m: [[f64; 4]; 4]) -> f64
@@ -348,13 +351,13 @@ fn swap4(b: [f64; 4], i: usize, j: usize) -> [f64; 4]
 
 fn eliminate4(m: [[f64; 4]; 4], b: &mut [f64; 4], col: usize) -> [[f64; 4]; 4]
     requires { ⌜ col < 4 ⌝ }
-    ensures { λ r. ⌜ system r (now (b .exit)) ≡ clearedOf 4 col (system m (now (b .entry))) ⌝ }
+    ensures { λ r. ⌜ system r (now (b .exit)) ≡ eliminatedOf 4 col (system m (now (b .entry))) ⌝ }
 {
     let mut m = m;
     for row in col + 1..4 {
         let factor = m[row][col] / m[col][col];
-        let cleared = clear4(m[row], m[col], factor, col);
-        m[row] = cleared;
+        let reduced = eliminate_row4(m[row], m[col], factor, col);
+        m[row] = reduced;
         b[row] = b[row] - factor * b[col];
     }
     m
@@ -366,7 +369,7 @@ fn back4(m: [[f64; 4]; 4], b: [f64; 4]) -> [f64; 4]
     let mut x = [0.0; 4];
     for i in 0..4 {
         let row = 3 - i;
-        let acc = rest4(m[row], x, row + 1, b[row]);
+        let acc = substitute4(m[row], x, row + 1, b[row]);
         x[row] = acc / m[row][row];
     }
     x

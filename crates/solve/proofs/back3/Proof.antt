@@ -1,4 +1,4 @@
--- Each turn finds an entry, from the last up.
+-- Each iteration finds an entry, from the last up.
 use mathlib.Core.Path.{_≡_, refl}
 use Prim.Native.Nat.{_-_, _≤_}
 use borrow.Author.Needs.{needs}
@@ -22,23 +22,23 @@ loop-holds c = (refl, omega arith)
 sub-row : tie.Need-sub-row Inv-loop μ-loop
 sub-row c = search needs
 
-mul-rest3 : tie.Need-mul-rest3 Inv-loop μ-loop
-mul-rest3 c = search needs
+mul-substitute3 : tie.Need-mul-substitute3 Inv-loop μ-loop
+mul-substitute3 c = search needs
 
-array-copy-out-rest3 : tie.Need-array-copy-out-rest3 Inv-loop μ-loop
-array-copy-out-rest3 c = search needs
+array-copy-out-substitute3 : tie.Need-array-copy-out-substitute3 Inv-loop μ-loop
+array-copy-out-substitute3 c = search needs
 
-add-rest3 : tie.Need-add-rest3 Inv-loop μ-loop
-add-rest3 c = search needs
+add-substitute3 : tie.Need-add-substitute3 Inv-loop μ-loop
+add-substitute3 c = search needs
 
-mul-rest3-2 : tie.Need-mul-rest3-2 Inv-loop μ-loop
-mul-rest3-2 c = search needs
+mul-substitute3-2 : tie.Need-mul-substitute3-2 Inv-loop μ-loop
+mul-substitute3-2 c = search needs
 
-array-read-rest3 : tie.Need-array-read-rest3 Inv-loop μ-loop
-array-read-rest3 c = search needs
+array-read-substitute3 : tie.Need-array-read-substitute3 Inv-loop μ-loop
+array-read-substitute3 c = search needs
 
-rest3-requires : tie.Need-rest3-requires Inv-loop μ-loop
-rest3-requires c κs = search needs
+substitute3-requires : tie.Need-substitute3-requires Inv-loop μ-loop
+substitute3-requires c κs = search needs
 
 mul-x : tie.Need-mul-x Inv-loop μ-loop
 mul-x c = search needs
@@ -70,7 +70,7 @@ loop-again c =
     let l = k .before .before in
     let s = l .before .loop in
     let a = l .before .before .args in
-    (ranged-again _ _ 3 (l .loop-test .taken) (row-solved 3 (2 - s .i) (a .t1) (a .t2) (s .x) (k .rest3 .ensures)) (s .inv .0), omega arith)
+    (ranged-again _ _ 3 (l .loop-test .taken) (row-solved 3 (2 - s .i) (a .t1) (a .t2) (s .x) (k .substitute3 .ensures)) (s .inv .0), omega arith)
 
 returns : tie.Need-returns Inv-loop μ-loop
 returns c = ranged-done _ _ _ (c .loop-test .left) (c .before .loop .inv .0)
@@ -78,24 +78,5 @@ returns c = ranged-done _ _ _ (c .loop-test .left) (c .before .loop .inv .0)
 pub back3-spec : {M : Type 1} → statement M
 back3-spec =
     tie.close
-    (tie.spec
-    Inv-loop
-    μ-loop
-    loop-holds
-    sub-row
-    mul-rest3
-    array-copy-out-rest3
-    add-rest3
-    mul-rest3-2
-    array-read-rest3
-    rest3-requires
-    mul-x
-    mul-x-2
-    index-1-x
-    index-2-x
-    mul-x-3
-    array-write-x
-    add-i
-    loop-less
-    loop-again
-    returns)
+    (tie.spec Inv-loop μ-loop loop-holds sub-row mul-substitute3 array-copy-out-substitute3 add-substitute3 mul-substitute3-2
+    array-read-substitute3 substitute3-requires mul-x mul-x-2 index-1-x index-2-x mul-x-3 array-write-x add-i loop-less loop-again returns)

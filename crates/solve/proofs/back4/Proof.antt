@@ -1,4 +1,4 @@
--- Each turn finds an entry, from the last up.
+-- Each iteration finds an entry, from the last up.
 use mathlib.Core.Path.{_≡_, refl}
 use Prim.Native.Nat.{_-_, _≤_}
 use borrow.Author.Needs.{needs}
@@ -22,23 +22,23 @@ loop-holds c = (refl, omega arith)
 sub-row : tie.Need-sub-row Inv-loop μ-loop
 sub-row c = search needs
 
-mul-rest4 : tie.Need-mul-rest4 Inv-loop μ-loop
-mul-rest4 c = search needs
+mul-substitute4 : tie.Need-mul-substitute4 Inv-loop μ-loop
+mul-substitute4 c = search needs
 
-array-copy-out-rest4 : tie.Need-array-copy-out-rest4 Inv-loop μ-loop
-array-copy-out-rest4 c = search needs
+array-copy-out-substitute4 : tie.Need-array-copy-out-substitute4 Inv-loop μ-loop
+array-copy-out-substitute4 c = search needs
 
-add-rest4 : tie.Need-add-rest4 Inv-loop μ-loop
-add-rest4 c = search needs
+add-substitute4 : tie.Need-add-substitute4 Inv-loop μ-loop
+add-substitute4 c = search needs
 
-mul-rest4-2 : tie.Need-mul-rest4-2 Inv-loop μ-loop
-mul-rest4-2 c = search needs
+mul-substitute4-2 : tie.Need-mul-substitute4-2 Inv-loop μ-loop
+mul-substitute4-2 c = search needs
 
-array-read-rest4 : tie.Need-array-read-rest4 Inv-loop μ-loop
-array-read-rest4 c = search needs
+array-read-substitute4 : tie.Need-array-read-substitute4 Inv-loop μ-loop
+array-read-substitute4 c = search needs
 
-rest4-requires : tie.Need-rest4-requires Inv-loop μ-loop
-rest4-requires c κs = search needs
+substitute4-requires : tie.Need-substitute4-requires Inv-loop μ-loop
+substitute4-requires c κs = search needs
 
 mul-x : tie.Need-mul-x Inv-loop μ-loop
 mul-x c = search needs
@@ -70,7 +70,7 @@ loop-again c =
     let l = k .before .before in
     let s = l .before .loop in
     let a = l .before .before .args in
-    (ranged-again _ _ 4 (l .loop-test .taken) (row-solved 4 (3 - s .i) (a .t1) (a .t2) (s .x) (k .rest4 .ensures)) (s .inv .0), omega arith)
+    (ranged-again _ _ 4 (l .loop-test .taken) (row-solved 4 (3 - s .i) (a .t1) (a .t2) (s .x) (k .substitute4 .ensures)) (s .inv .0), omega arith)
 
 returns : tie.Need-returns Inv-loop μ-loop
 returns c = ranged-done _ _ _ (c .loop-test .left) (c .before .loop .inv .0)
@@ -78,24 +78,5 @@ returns c = ranged-done _ _ _ (c .loop-test .left) (c .before .loop .inv .0)
 pub back4-spec : {M : Type 1} → statement M
 back4-spec =
     tie.close
-    (tie.spec
-    Inv-loop
-    μ-loop
-    loop-holds
-    sub-row
-    mul-rest4
-    array-copy-out-rest4
-    add-rest4
-    mul-rest4-2
-    array-read-rest4
-    rest4-requires
-    mul-x
-    mul-x-2
-    index-1-x
-    index-2-x
-    mul-x-3
-    array-write-x
-    add-i
-    loop-less
-    loop-again
-    returns)
+    (tie.spec Inv-loop μ-loop loop-holds sub-row mul-substitute4 array-copy-out-substitute4 add-substitute4 mul-substitute4-2
+    array-read-substitute4 substitute4-requires mul-x mul-x-2 index-1-x index-2-x mul-x-3 array-write-x add-i loop-less loop-again returns)

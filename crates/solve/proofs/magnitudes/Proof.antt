@@ -1,4 +1,4 @@
--- Each turn adds a magnitude.
+-- Each iteration adds a magnitude.
 use mathlib.Core.Path.{_≡_, refl, ap}
 use Prim.Native.Nat.{_-_, _≤_}
 use borrow.Author.Needs.{needs}
@@ -43,16 +43,4 @@ returns : tie.Need-returns Inv-loop μ-loop
 returns c = ranged-done _ _ _ (c .loop-test .left) (c .before .loop .inv .0)
 
 pub magnitudes-spec : {M : Type 1} → statement M
-magnitudes-spec =
-    tie.close
-    (tie.spec
-    Inv-loop
-    μ-loop
-    loop-holds
-    mul-abs
-    shared-slice-read-abs
-    abs-requires
-    add-k
-    loop-less
-    loop-again
-    returns)
+magnitudes-spec = tie.close (tie.spec Inv-loop μ-loop loop-holds mul-abs shared-slice-read-abs abs-requires add-k loop-less loop-again returns)

@@ -165,4 +165,9 @@ returns-4 c =
     ap answer3 (ap solution (c .back3 .ensures) ∙ searched-done _ _ 3 3 (lit≤ tt) i3)
 
 pub solve-3x3-spec : {M : Type 1} → statement M
-solve-3x3-spec = tie.close (tie.spec scale3-requires pivot3-requires swap-rows3-requires swap3-requires index-1-gives-up index-2-gives-up gives-up-requires returns eliminate3-requires pivot3-requires-2 swap-rows3-requires-2 swap3-requires-2 index-1-gives-up-2 index-2-gives-up-2 gives-up-requires-2 returns-2 eliminate3-requires-2 pivot3-requires-3 swap-rows3-requires-3 swap3-requires-3 index-1-gives-up-3 index-2-gives-up-3 gives-up-requires-3 returns-3 eliminate3-requires-3 back3-requires array-read-t25 array-read-t44 array-read-t47 returns-4)
+solve-3x3-spec =
+    tie.close
+    (tie.spec scale3-requires pivot3-requires swap-rows3-requires swap3-requires index-1-gives-up index-2-gives-up gives-up-requires returns
+    eliminate3-requires pivot3-requires-2 swap-rows3-requires-2 swap3-requires-2 index-1-gives-up-2 index-2-gives-up-2 gives-up-requires-2
+    returns-2 eliminate3-requires-2 pivot3-requires-3 swap-rows3-requires-3 swap3-requires-3 index-1-gives-up-3 index-2-gives-up-3
+    gives-up-requires-3 returns-3 eliminate3-requires-3 back3-requires array-read-t25 array-read-t44 array-read-t47 returns-4)

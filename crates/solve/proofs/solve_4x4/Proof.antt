@@ -224,4 +224,11 @@ returns-5 c =
     ap answer4 (ap solution (c .back4 .ensures) ∙ searched-done _ _ 4 4 (lit≤ tt) i4)
 
 pub solve-4x4-spec : {M : Type 1} → statement M
-solve-4x4-spec = tie.close (tie.spec scale4-requires pivot4-requires swap-rows4-requires swap4-requires index-1-gives-up index-2-gives-up gives-up-requires returns eliminate4-requires pivot4-requires-2 swap-rows4-requires-2 swap4-requires-2 index-1-gives-up-2 index-2-gives-up-2 gives-up-requires-2 returns-2 eliminate4-requires-2 pivot4-requires-3 swap-rows4-requires-3 swap4-requires-3 index-1-gives-up-3 index-2-gives-up-3 gives-up-requires-3 returns-3 eliminate4-requires-3 pivot4-requires-4 swap-rows4-requires-4 swap4-requires-4 index-1-gives-up-4 index-2-gives-up-4 gives-up-requires-4 returns-4 eliminate4-requires-4 back4-requires array-read-t29 array-read-t54 array-read-t57 array-read-t60 returns-5)
+solve-4x4-spec =
+    tie.close
+    (tie.spec scale4-requires pivot4-requires swap-rows4-requires swap4-requires index-1-gives-up index-2-gives-up gives-up-requires returns
+    eliminate4-requires pivot4-requires-2 swap-rows4-requires-2 swap4-requires-2 index-1-gives-up-2 index-2-gives-up-2 gives-up-requires-2
+    returns-2 eliminate4-requires-2 pivot4-requires-3 swap-rows4-requires-3 swap4-requires-3 index-1-gives-up-3 index-2-gives-up-3
+    gives-up-requires-3 returns-3 eliminate4-requires-3 pivot4-requires-4 swap-rows4-requires-4 swap4-requires-4 index-1-gives-up-4
+    index-2-gives-up-4 gives-up-requires-4 returns-4 eliminate4-requires-4 back4-requires array-read-t29 array-read-t54 array-read-t57
+    array-read-t60 returns-5)

@@ -31,4 +31,7 @@ returns-4 c =
     rw e (c .swapped-rows44 .ensures)
 
 pub swap-rows4-spec : {M : Type 1} → statement M
-swap-rows4-spec = tie.close (tie.spec swapped-rows4-requires swapped-rows4-requires-2 swapped-rows4-requires-3 swapped-rows4-requires-4 returns returns-2 returns-3 returns-4)
+swap-rows4-spec =
+    tie.close
+    (tie.spec swapped-rows4-requires swapped-rows4-requires-2 swapped-rows4-requires-3 swapped-rows4-requires-4 returns returns-2 returns-3
+    returns-4)

@@ -23,8 +23,9 @@ unfolding evalD1
 returns c =
     let c1 = c .before .before in
     let s2 = c1 .before in
-    let s1 = s2 .before .before in
-    rw (c .along3 .ensures, c .before .along2 .ensures, c1 .along .ensures, s2 .sin-cos2 .ensures .0, s2 .sin-cos2 .ensures .1, s1 .sin-cos .ensures .0, s1 .sin-cos .ensures .1)
+    let at-u = s2 .sin-cos2 .ensures in
+    let at-a = s2 .before .before .sin-cos .ensures in
+    rw (c .along3 .ensures, c .before .along2 .ensures, c1 .along .ensures, at-u .0, at-u .1, at-a .0, at-a .1)
 
 pub cone-derivatives-spec : {M : Type 1} → statement M
 cone-derivatives-spec = tie.close (tie.spec sin-cos-requires sin-cos-requires-2 along-requires along-requires-2 along-requires-3 returns)

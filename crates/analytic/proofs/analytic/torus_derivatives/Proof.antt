@@ -28,8 +28,9 @@ returns c =
     let c2 = c .before .before in
     let c1 = c2 .before in
     let s2 = c1 .before in
-    let s1 = s2 .before .before in
-    rw (times-scale, c .along3 .ensures, c .before .along2 .ensures, c2 .scale .ensures, c1 .along .ensures, s2 .sin-cos2 .ensures .0, s2 .sin-cos2 .ensures .1, s1 .sin-cos .ensures .0, s1 .sin-cos .ensures .1)
+    let at-u = s2 .sin-cos2 .ensures in
+    let at-v = s2 .before .before .sin-cos .ensures in
+    rw (times-scale, c .along3 .ensures, c .before .along2 .ensures, c2 .scale .ensures, c1 .along .ensures, at-u .0, at-u .1, at-v .0, at-v .1)
 
 pub torus-derivatives-spec : {M : Type 1} → statement M
 torus-derivatives-spec = tie.close (tie.spec sin-cos-requires sin-cos-requires-2 along-requires scale-requires along-requires-2 along-requires-3 returns)

@@ -29,14 +29,4 @@ unfolding frameAt
 returns c = rw (c .direction3 .ensures, c .before .direction2 .ensures, c .before .before .direction .ensures, c .before .before .before .point .ensures)
 
 pub frame-spec : {M : Type 1} → statement M
-frame-spec =
-    tie.close
-    (tie.spec
-    point-requires
-    add-direction
-    direction-requires
-    add-direction-2
-    direction-requires-2
-    add-direction-3
-    direction-requires-3
-    returns)
+frame-spec = tie.close (tie.spec point-requires add-direction direction-requires add-direction-2 direction-requires-2 add-direction-3 direction-requires-3 returns)

@@ -29,14 +29,4 @@ unfolding guessAt
 returns c = rw (c .number4 .ensures, c .before .number3 .ensures, c .before .before .number2 .ensures, c .before .before .before .number .ensures)
 
 pub guess-at-spec : {M : Type 1} → statement M
-guess-at-spec =
-    tie.close
-    (tie.spec
-    number-requires
-    add-number
-    number-requires-2
-    add-number-2
-    number-requires-3
-    add-number-3
-    number-requires-4
-    returns)
+guess-at-spec = tie.close (tie.spec number-requires add-number number-requires-2 add-number-2 number-requires-3 add-number-3 number-requires-4 returns)

@@ -20,5 +20,4 @@ unfolding jobAt
 returns c = rw (c .two .ensures .0, c .before .guess-at .ensures, c .before .before .number2 .ensures, c .before .before .before .number .ensures)
 
 pub job-at-spec : {M : Type 1} → statement M
-job-at-spec =
-    tie.close (tie.spec number-requires number-requires-2 guess-at-requires two-requires returns)
+job-at-spec = tie.close (tie.spec number-requires number-requires-2 guess-at-requires two-requires returns)

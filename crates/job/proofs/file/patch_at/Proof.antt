@@ -49,18 +49,5 @@ returns c = rw (c .window2 .ensures, c .before .has-mark2 .ensures, c .before .b
 pub patch-at-spec : {M : Type 1} → statement M
 patch-at-spec =
     tie.close
-    (tie.spec
-    add-frame
-    frame-requires
-    add-number
-    number-requires
-    add-number-2
-    number-requires-2
-    surface-of-requires
-    add-window
-    has-mark-requires
-    window-requires
-    add-window-2
-    has-mark-requires-2
-    window-requires-2
-    returns)
+    (tie.spec add-frame frame-requires add-number number-requires add-number-2 number-requires-2 surface-of-requires add-window
+    has-mark-requires window-requires add-window-2 has-mark-requires-2 window-requires-2 returns)

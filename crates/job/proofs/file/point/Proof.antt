@@ -23,6 +23,4 @@ unfolding originAt
 returns c = rw (c .number3 .ensures, c .before .number2 .ensures, c .before .before .number .ensures)
 
 pub point-spec : {M : Type 1} → statement M
-point-spec =
-    tie.close
-    (tie.spec number-requires add-number number-requires-2 add-number-2 number-requires-3 returns)
+point-spec = tie.close (tie.spec number-requires add-number number-requires-2 add-number-2 number-requires-3 returns)

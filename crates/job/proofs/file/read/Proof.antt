@@ -70,19 +70,5 @@ returns-6 c =
 pub read-spec : {M : Type 1} → statement M
 read-spec =
     tie.close
-    (tie.spec
-    returns
-    four-requires
-    returns-2
-    one-requires
-    returns-3
-    surface-at-requires
-    enum-known-a
-    enum-told
-    returns-4
-    surface-at-requires-2
-    enum-known-b
-    enum-told-2
-    returns-5
-    job-at-requires
-    returns-6)
+    (tie.spec returns four-requires returns-2 one-requires returns-3 surface-at-requires enum-known-a enum-told returns-4
+    surface-at-requires-2 enum-known-b enum-told-2 returns-5 job-at-requires returns-6)

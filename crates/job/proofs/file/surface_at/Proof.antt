@@ -56,17 +56,5 @@ returns-4 c =
 pub surface-at-spec : {M : Type 1} → statement M
 surface-at-spec =
     tie.close
-    (tie.spec
-    one-requires
-    add-one
-    one-requires-2
-    add-eight
-    eight-requires
-    add-eight-2
-    eight-requires-2
-    returns
-    returns-2
-    unused-clear-requires
-    returns-3
-    patch-at-requires
-    returns-4)
+    (tie.spec one-requires add-one one-requires-2 add-eight eight-requires add-eight-2 eight-requires-2 returns returns-2
+    unused-clear-requires returns-3 patch-at-requires returns-4)

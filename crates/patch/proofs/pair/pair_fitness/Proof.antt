@@ -51,15 +51,5 @@ returns-4 c =
 pub pair-fitness-spec : {M : Type 1} → statement M
 pair-fitness-spec =
     tie.close
-    (tie.spec
-    fitness-requires
-    enum-known-first
-    enum-told
-    fitness-requires-2
-    enum-known-second
-    enum-told-2
-    is-fit-requires
-    returns
-    returns-2
-    returns-3
-    returns-4)
+    (tie.spec fitness-requires enum-known-first enum-told fitness-requires-2 enum-known-second enum-told-2 is-fit-requires returns returns-2
+    returns-3 returns-4)

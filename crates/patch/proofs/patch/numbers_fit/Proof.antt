@@ -54,4 +54,7 @@ unfolding numbersFit
 returns-5 c = rw (c .before .before .surface5 .given .1) (c .both-fit2 .ensures)
 
 pub numbers-fit-spec : {M : Type 1} → statement M
-numbers-fit-spec = tie.close (tie.spec enum-known-surface frame-fit-requires enum-known-surface-2 one-fits-requires enum-known-surface-3 both-fit-requires enum-known-surface-4 one-fits-requires-2 enum-known-surface-5 both-fit-requires-2 returns returns-2 returns-3 returns-4 returns-5)
+numbers-fit-spec =
+    tie.close
+    (tie.spec enum-known-surface frame-fit-requires enum-known-surface-2 one-fits-requires enum-known-surface-3 both-fit-requires
+    enum-known-surface-4 one-fits-requires-2 enum-known-surface-5 both-fit-requires-2 returns returns-2 returns-3 returns-4 returns-5)

@@ -45,4 +45,7 @@ unfolding sizesFit
 returns-5 c = rw (c .before .before .surface4 .given .1, ← c .both-positive .ensures)
 
 pub sizes-fit-spec : {M : Type 1} → statement M
-sizes-fit-spec = tie.close (tie.spec enum-told enum-known-surface enum-known-surface-2 cone-fits-requires enum-known-surface-3 enum-known-surface-4 both-positive-requires returns returns-2 returns-3 returns-4 returns-5)
+sizes-fit-spec =
+    tie.close
+    (tie.spec enum-told enum-known-surface enum-known-surface-2 cone-fits-requires enum-known-surface-3 enum-known-surface-4
+    both-positive-requires returns returns-2 returns-3 returns-4 returns-5)

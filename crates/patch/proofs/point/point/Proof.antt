@@ -54,4 +54,7 @@ returns-4 c =
     (pick-taken _ (sym (f2 .is-finite2 .ensures) ∙ not-false _ (c .before .if2 .left)) (ap At (c .eval-point .ensures))))
 
 pub point-spec : {M : Type 1} → statement M
-point-spec = tie.close (tie.spec fitness-requires enum-known-fitness enum-told is-finite-requires returns is-finite-requires-2 returns-2 eval-point-requires returns-3 returns-4)
+point-spec =
+    tie.close
+    (tie.spec fitness-requires enum-known-fitness enum-told is-finite-requires returns is-finite-requires-2 returns-2 eval-point-requires
+    returns-3 returns-4)

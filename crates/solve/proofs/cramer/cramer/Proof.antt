@@ -45,17 +45,5 @@ returns c = refl
 pub cramer-spec : {M : Type 1} → statement M
 cramer-spec =
     tie.close
-    (tie.spec
-    array-read-t8
-    index-1-t13
-    index-2-t13
-    array-read-t17
-    index-1-t22
-    index-2-t22
-    index-1-t30
-    index-2-t30
-    array-read-t33
-    index-1-t39
-    index-2-t39
-    array-read-t42
-    returns)
+    (tie.spec array-read-t8 index-1-t13 index-2-t13 array-read-t17 index-1-t22 index-2-t22 index-1-t30 index-2-t30 array-read-t33
+    index-1-t39 index-2-t39 array-read-t42 returns)

@@ -45,17 +45,5 @@ returns c = rw (c .abs4 .ensures, c .before .before .abs3 .ensures, c .before .b
 pub scale2-spec : {M : Type 1} → statement M
 scale2-spec =
     tie.close
-    (tie.spec
-    index-1-abs
-    index-2-abs
-    abs-requires
-    index-1-abs-2
-    index-2-abs-2
-    abs-requires-2
-    index-1-abs-3
-    index-2-abs-3
-    abs-requires-3
-    index-1-abs-4
-    index-2-abs-4
-    abs-requires-4
-    returns)
+    (tie.spec index-1-abs index-2-abs abs-requires index-1-abs-2 index-2-abs-2 abs-requires-2 index-1-abs-3 index-2-abs-3 abs-requires-3
+    index-1-abs-4 index-2-abs-4 abs-requires-4 returns)

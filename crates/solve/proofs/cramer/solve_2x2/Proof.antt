@@ -28,12 +28,4 @@ returns-2 c =
     ap Solution (c .cramer .ensures) ∙ at-determinant _ _ _ (t .before .before .determinant .ensures) (t .before .scale2 .ensures) (t .gives-up .ensures) (c .before .if1 .left)
 
 pub solve-2x2-spec : {M : Type 1} → statement M
-solve-2x2-spec =
-    tie.close
-    (tie.spec
-    determinant-requires
-    scale2-requires
-    gives-up-requires
-    returns
-    cramer-requires
-    returns-2)
+solve-2x2-spec = tie.close (tie.spec determinant-requires scale2-requires gives-up-requires returns cramer-requires returns-2)

@@ -47,4 +47,7 @@ returns-5 : tie.Need-returns-5
 returns-5 c = rw (c .before .before .self5 .given .1) (c .torus-derivatives .ensures)
 
 pub eval-d1-spec : {M : Type 1} → statement M
-eval-d1-spec = tie.close (tie.spec enum-known-self enum-known-self-2 cylinder-derivatives-requires enum-known-self-3 cone-derivatives-requires enum-known-self-4 sphere-derivatives-requires enum-known-self-5 torus-derivatives-requires returns returns-2 returns-3 returns-4 returns-5)
+eval-d1-spec =
+    tie.close
+    (tie.spec enum-known-self enum-known-self-2 cylinder-derivatives-requires enum-known-self-3 cone-derivatives-requires enum-known-self-4
+    sphere-derivatives-requires enum-known-self-5 torus-derivatives-requires returns returns-2 returns-3 returns-4 returns-5)

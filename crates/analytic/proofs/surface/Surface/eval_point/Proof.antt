@@ -48,4 +48,7 @@ returns-5 : tie.Need-returns-5
 returns-5 c = rw (c .before .before .self5 .given .1) (c .torus-d0 .ensures)
 
 pub eval-point-spec : {M : Type 1} → statement M
-eval-point-spec = tie.close (tie.spec enum-known-self plane-d0-requires enum-known-self-2 cylinder-d0-requires enum-known-self-3 cone-d0-requires enum-known-self-4 sphere-d0-requires enum-known-self-5 torus-d0-requires returns returns-2 returns-3 returns-4 returns-5)
+eval-point-spec =
+    tie.close
+    (tie.spec enum-known-self plane-d0-requires enum-known-self-2 cylinder-d0-requires enum-known-self-3 cone-d0-requires enum-known-self-4
+    sphere-d0-requires enum-known-self-5 torus-d0-requires returns returns-2 returns-3 returns-4 returns-5)

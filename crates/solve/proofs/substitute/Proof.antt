@@ -1,4 +1,4 @@
--- Each turn takes a product off.
+-- Each iteration takes a product off.
 use mathlib.Core.Path.{_≡_, refl}
 use Prim.Native.Nat.{_-_, _≤_}
 use borrow.Author.Needs.{needs}
@@ -6,8 +6,8 @@ use native.Mathlib.Omega.{arith}
 use Rattle.loops.specs.Loop.{ranged}
 use Rattle.loops.proofs.Loop.{ranged-again, ranged-done}
 use Rattle.solve.specs.Solve.{lessProduct, substituted}
-use Rattle.solve.proofs.rest.Statement.{statement}
-use Rattle.solve.proofs.rest.Tie as tie
+use Rattle.solve.proofs.substitute.Statement.{statement}
+use Rattle.solve.proofs.substitute.Tie as tie
 
 abbrev Inv-loop : tie.InvT-loop
 Inv-loop row x n from acc acc₀ k₀ acc' k = (ranged (lessProduct row x) k n acc' ≡ substituted n row x from acc) × (k ≤ n)
@@ -44,18 +44,5 @@ loop-again c =
 returns : tie.Need-returns Inv-loop μ-loop
 returns c = ranged-done _ _ _ (c .loop-test .left) (c .before .loop .inv .0)
 
-pub rest-spec : {M : Type 1} → statement M
-rest-spec =
-    tie.close
-    (tie.spec
-    Inv-loop
-    μ-loop
-    loop-holds
-    mul-acc
-    shared-slice-read-acc
-    mul-acc-2
-    shared-slice-read-acc-2
-    add-k
-    loop-less
-    loop-again
-    returns)
+pub substitute-spec : {M : Type 1} → statement M
+substitute-spec = tie.close (tie.spec Inv-loop μ-loop loop-holds mul-acc shared-slice-read-acc mul-acc-2 shared-slice-read-acc-2 add-k loop-less loop-again returns)

@@ -1,4 +1,4 @@
--- Each turn takes a multiple of the pivot's entry off, and the row keeps its length.
+-- Each iteration takes a multiple of the pivot's entry off, and the row keeps its length.
 use mathlib.Core.Path.{_≡_, refl}
 use Prim.Native.Nat.{_-_, _≤_}
 use lib.ListN.{length, length-set}
@@ -6,12 +6,12 @@ use borrow.Author.Needs.{needs}
 use native.Mathlib.Omega.{arith}
 use Rattle.loops.specs.Loop.{ranged}
 use Rattle.loops.proofs.Loop.{ranged-again, ranged-done}
-use Rattle.solve.specs.Solve.{entryReduced, rowReduced}
-use Rattle.solve.proofs.clear.Statement.{statement}
-use Rattle.solve.proofs.clear.Tie as tie
+use Rattle.solve.specs.Solve.{entryReduced, rowEliminated}
+use Rattle.solve.proofs.eliminate_row.Statement.{statement}
+use Rattle.solve.proofs.eliminate_row.Tie as tie
 
 abbrev Inv-loop : tie.InvT-loop
-Inv-loop row₀ pivot n factor col k₀ row k = (ranged (entryReduced pivot factor) k n row ≡ rowReduced n row₀ pivot factor col) × ((k ≤ n) × (length row ≡ length row₀))
+Inv-loop row₀ pivot n factor col k₀ row k = (ranged (entryReduced pivot factor) k n row ≡ rowEliminated n row₀ pivot factor col) × ((k ≤ n) × (length row ≡ length row₀))
 
 abbrev μ-loop : tie.MeasureT-loop
 μ-loop row₀ pivot n factor col k₀ row k = n - k
@@ -54,21 +54,8 @@ same-length c = search needs
 returns : tie.Need-returns Inv-loop μ-loop
 returns c = ranged-done _ _ _ (c .loop-test .left) (c .before .loop .inv .0)
 
-pub clear-spec : {M : Type 1} → statement M
-clear-spec =
+pub eliminate-row-spec : {M : Type 1} → statement M
+eliminate-row-spec =
     tie.close
-    (tie.spec
-    Inv-loop
-    μ-loop
-    loop-holds
-    mul-row
-    slice-read-row
-    mul-row-2
-    shared-slice-read-row
-    mul-row-3
-    slice-write-row
-    add-k
-    loop-less
-    loop-again
-    same-length
-    returns)
+    (tie.spec Inv-loop μ-loop loop-holds mul-row slice-read-row mul-row-2 shared-slice-read-row mul-row-3 slice-write-row add-k loop-less
+    loop-again same-length returns)
