@@ -24,9 +24,9 @@ use Rattle.patch.specs.Patch.{fitnessOf}
 use Rattle.meeting.specs.declared.newton.Met.{Met}
 use Rattle.meeting.specs.declared.newton.Met.the-variants as met
 use Rattle.meeting.specs.Newton.{meetOf}
-use Rattle.marching.specs.declared.tangent.Direction.{Direction}
-use Rattle.marching.specs.declared.tangent.Direction.the-variants as direction
-use Rattle.marching.specs.Tangent.{tangentOf}
+use Rattle.tangent.specs.declared.Direction.{Direction}
+use Rattle.tangent.specs.declared.Direction.the-variants as direction
+use Rattle.tangent.specs.Tangent.{tangentOf}
 use Rattle.meeting.specs.Intersection.{IsIntersection}
 use Rattle.meeting.proofs.Intersection.{meet-intersects}
 use Rattle.certificate.specs.Passes.{Passes}

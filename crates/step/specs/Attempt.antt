@@ -15,11 +15,12 @@ use Rattle.patch.specs.declared.patch.Patch.{Patch}
 use Rattle.patch.specs.declared.patch.Parameters.{Parameters}
 use Rattle.meeting.specs.declared.newton.Met.{Met}
 use Rattle.meeting.specs.declared.newton.Met.the-variants as met
-use Rattle.marching.specs.declared.tangent.Direction.{Direction}
-use Rattle.marching.specs.declared.tangent.Direction.the-variants as direction
+use Rattle.tangent.specs.declared.Direction.{Direction}
+use Rattle.tangent.specs.declared.Direction.the-variants as direction
 use Rattle.marching.specs.declared.leaving.Exit.{Exit}
 use Rattle.marching.specs.declared.leaving.Exit.the-variants as exit
-use Rattle.marching.specs.Tangent.{tangentOf, predictOf}
+use Rattle.tangent.specs.Tangent.{tangentOf}
+use Rattle.marching.specs.Predict.{predictOf}
 use Rattle.marching.specs.Leaving.{leavingOf}
 use Rattle.patch.specs.Located.{pointA}
 use Rattle.meeting.specs.Newton.{meetInPlaneOf, landOf}

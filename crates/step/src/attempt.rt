@@ -2,16 +2,16 @@
 use geometry::Point3D;
 use geometry::Tolerance;
 use geometry::Vector3D;
-use marching::Direction;
 use marching::Exit;
 use marching::leaving::leaving;
-use marching::tangent::predict;
-use marching::tangent::tangent;
+use marching::predict::predict;
 use meeting::Met;
 use meeting::newton::land;
 use meeting::newton::meet_in_plane;
 use patch::Parameters;
 use patch::Patch;
+use tangent::Direction;
+use tangent::tangent;
 ghost use mathlib.Core.Path.{_≡_};
 ghost use Rattle.step.specs.Attempt.{keptOf, landingKept, turnOf, nearCurve, smoothOf, acceptedOf, onwardOf, innerOf, landedOf, attemptOf};
 

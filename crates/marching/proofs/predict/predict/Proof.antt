@@ -1,7 +1,7 @@
 use borrow.Author.Needs.{needs}
-use Rattle.marching.specs.Tangent.{shiftOf, predictOf}
-use Rattle.marching.proofs.tangent.predict.Statement.{statement}
-use Rattle.marching.proofs.tangent.predict.Tie as tie
+use Rattle.marching.specs.Predict.{shiftOf, predictOf}
+use Rattle.marching.proofs.predict.predict.Statement.{statement}
+use Rattle.marching.proofs.predict.predict.Tie as tie
 
 eval-d1-requires : tie.Need-eval-d1-requires
 eval-d1-requires c κs = search needs

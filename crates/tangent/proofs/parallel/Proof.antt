@@ -3,9 +3,9 @@ use borrow.Author.Needs.{needs}
 use mathlib.Core.Path.{_≡_, sym, subst}
 use mathlib.Core.Bool.{Bool, true}
 use lib.Dec.{T}
-use Rattle.marching.proofs.Parallel.{not-parallel}
-use Rattle.marching.proofs.tangent.parallel.Statement.{statement}
-use Rattle.marching.proofs.tangent.parallel.Tie as tie
+use Rattle.tangent.proofs.Roots.{not-parallel}
+use Rattle.tangent.proofs.parallel.Statement.{statement}
+use Rattle.tangent.proofs.parallel.Tie as tie
 
 holds : {b : Bool} → b ≡ true → T b
 holds e = subst T (sym e) tt

@@ -3,9 +3,9 @@ use mathlib.Core.Path.{_≡_, refl, sym}
 use Rattle.sqrt.specs.Sqrt.{sqrtOf}
 use Rattle.geometry.specs.declared.vector.Vector3D.{Vector3D}
 use Rattle.geometry.specs.Vector.{dotOf, crossOf, squareMagnitudeOf, magnitudeOf}
-use Rattle.marching.specs.Tangent.{unitCross}
-use Rattle.marching.proofs.tangent.unit_cross.Statement.{statement}
-use Rattle.marching.proofs.tangent.unit_cross.Tie as tie
+use Rattle.tangent.specs.Tangent.{unitCross}
+use Rattle.tangent.proofs.unit_cross.Statement.{statement}
+use Rattle.tangent.proofs.unit_cross.Tie as tie
 
 -- a magnitude is the root of a vector's product with itself
 root-of : (v : Vector3D) → magnitudeOf v ≡ sqrtOf (dotOf v v)
