@@ -1,4 +1,4 @@
--- The laws of a search: its turns, and that it finds exactly what there is.
+-- The laws of a search: its iterations, and that it finds exactly what there is.
 use mathlib.Core.Path.{_≡_, refl, sym, _∙_}
 use mathlib.Core.Bool.{Bool, true, false}
 use Prim.Native.Nat.{ℕ, zero, suc, _+_, _-_, _≤_, _<_}
@@ -7,7 +7,7 @@ use Rattle.loops.specs.Any.{stopAt, notFound, anyIn}
 use Rattle.loops.proofs.Loop.{searched-again, searched-leave, searched-done}
 
 module _ (test : ℕ → Bool) (a b : ℕ) where
-  -- a turn whose test fails, a turn whose test holds, and the end
+  -- an iteration whose test fails, one whose test holds, and the end
   pub any-again : {u : Bool} → a < b → test a ≡ false → anyIn test a b ≡ u → anyIn test (a + 1) b ≡ u
   any-again h e i = searched-again (stopAt test) notFound a b h (rw e) i
 

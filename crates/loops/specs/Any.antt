@@ -3,7 +3,7 @@ use mathlib.Core.Bool.{Bool, true, false}
 use Prim.Native.Nat.{ℕ}
 use Rattle.loops.specs.Loop.{pick, Flow, on, out, searched}
 
--- one turn: `if test(i) { return true; }`
+-- one iteration: `if test(i) { return true; }`
 abbrev pub stopAt : (ℕ → Bool) → ℕ → Unit {0} → Flow (Unit {0}) Bool
 stopAt test i s = pick (test i) (out true) (on s)
 

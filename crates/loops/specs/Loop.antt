@@ -1,4 +1,4 @@
--- Loops as functions, by recursion on the turns left, so that a definition made of them computes. Definitions only.
+-- Loops as functions, by recursion on the iterations left, so that a definition made of them computes. Definitions only.
 use mathlib.Core.Bool.{Bool, true, false}
 use Prim.Native.Nat.{ℕ, zero, suc, _+_, _-_}
 
@@ -16,7 +16,7 @@ iterated f (suc k) i s = iterated f k (i + 1) (f i s)
 abbrev pub ranged : {S : Type 0} → (ℕ → S → S) → ℕ → ℕ → S → S
 ranged f a b s = iterated f (b - a) a s
 
--- what a turn of a loop with an early way out gives: the state to go on with, or the answer
+-- what an iteration of a loop with an early way out gives: the state to go on with, or the answer
 pub data Flow (S R : Type 0) : Type 0 where
   on : S → Flow S R
   out : R → Flow S R

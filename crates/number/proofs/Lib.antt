@@ -8,3 +8,4 @@ pub mod Symmetry
 pub mod Order
 pub mod Sums
 pub mod Scaling
+pub mod Minimum
