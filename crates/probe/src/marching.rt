@@ -67,9 +67,9 @@ fn probe_leaving(input: &[f64], output: &mut [f64]) -> u64
     let y = parameters(input, 48);
     let exit = marching::leaving::leaving(c.a, c.b, c.x, y);
     match exit {
-        Exit::At(k, bound) => {
+        Exit::At { index, bound } => {
             output[0] = bound;
-            k as u64
+            index as u64
         }
         Exit::Nowhere => 4,
     }

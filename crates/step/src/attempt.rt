@@ -170,6 +170,6 @@ pub(crate) fn attempt(a: Patch, b: Patch, tol: Tolerance, dir: f64, w: Walker, h
     let exit = leaving(a, b, x, guess);
     match exit {
         Exit::Nowhere => inner(a, b, tol, dir, w, h, guess),
-        Exit::At(pin, bound) => landed(a, b, tol, w, h, guess, pin, bound),
+        Exit::At { index, bound } => landed(a, b, tol, w, h, guess, index, bound),
     }
 }

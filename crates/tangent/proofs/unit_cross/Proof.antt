@@ -34,17 +34,24 @@ returns : tie.Need-returns
 unfolding unitCross
 returns c =
     let p = c .before in
-    let s = p .before .before .before .before .before in
-    let t : crossOf (s .args .na) (s .args .nb) ≡ p .before .before .before .before .cross .result = sym (p .before .before .before .before .cross .ensures) in
-    rw (t, ← p .before .before .before .magnitude .ensures, root-of (s .args .na), root-of (s .args .nb), ← p .before .before .dot .ensures, ← p .before .dot2 .ensures, ← p .parallel .ensures, c .if1 .taken)
+    let d = p .before .before in
+    let m = d .before in
+    let x = m .before in
+    let s = x .before .args in
+    let t : crossOf (s .na) (s .nb) ≡ x .cross .result = sym (x .cross .ensures) in
+    rw (t, ← m .magnitude .ensures, root-of (s .na), root-of (s .nb), ← d .dot .ensures, ← p .before .dot2 .ensures, ← p .parallel .ensures, c .if1 .taken)
 
 returns-2 : tie.Need-returns-2
 unfolding unitCross
 returns-2 c =
-    let p = c .before .before in
-    let s = p .before .before .before .before .before in
-    let t : crossOf (s .args .na) (s .args .nb) ≡ p .before .before .before .before .cross .result = sym (p .before .before .before .before .cross .ensures) in
-    rw (t, ← p .before .before .before .magnitude .ensures, root-of (s .args .na), root-of (s .args .nb), ← p .before .before .dot .ensures, ← p .before .dot2 .ensures, ← p .parallel .ensures, c .before .if1 .left, ← c .scale .ensures)
+    let i = c .before in
+    let p = i .before in
+    let d = p .before .before in
+    let m = d .before in
+    let x = m .before in
+    let s = x .before .args in
+    let t : crossOf (s .na) (s .nb) ≡ x .cross .result = sym (x .cross .ensures) in
+    rw (t, ← m .magnitude .ensures, root-of (s .na), root-of (s .nb), ← d .dot .ensures, ← p .before .dot2 .ensures, ← p .parallel .ensures, i .if1 .left, ← c .scale .ensures)
 
 pub unit-cross-spec : {M : Type 1} → statement M
 unit-cross-spec =

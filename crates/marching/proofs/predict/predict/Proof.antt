@@ -17,7 +17,10 @@ shift-requires-2 c κs = search needs
 
 returns : tie.Need-returns
 unfolding predictOf shiftOf
-returns c = rw (c .before .before .before .before .before .before .before .before .shift2 .ensures, c .before .before .before .before .before .before .before .before .before .eval-d12 .ensures, c .before .before .before .before .before .before .before .before .before .before .shift .ensures, c .before .before .before .before .before .before .before .before .before .before .before .eval-d1 .ensures)
+returns c =
+    let t = c .before .before .before .before .before .before .before .before in
+    let s = t .before .before in
+    rw (t .shift2 .ensures, t .before .eval-d12 .ensures, s .shift .ensures, s .before .eval-d1 .ensures)
 
 pub predict-spec : {M : Type 1} → statement M
 predict-spec = tie.close (tie.spec eval-d1-requires shift-requires eval-d1-requires-2 shift-requires-2 returns)
