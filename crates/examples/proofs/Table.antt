@@ -10,7 +10,7 @@ use Rattle.fdlibm.proofs.Examples as fdlibm
 use Rattle.solve.proofs.Computing as solve
 use Rattle.boxes.proofs.Computing as boxes
 use Rattle.marching.specs.Leaving.{leavingOf, firstExit, considerOf, lesserOf}
-use Rattle.marching.specs.Tangent.{normalOf, unitCross, tangentOf}
+use Rattle.tangent.specs.Tangent.{normalOf, unitCross, tangentOf}
 use Rattle.meeting.proofs.Evaluated as meeting
 use Rattle.number.specs.Helpers.{numberFit}
 use Rattle.geometry.specs.Point.{pointFit}

@@ -1,2 +1,2 @@
-pub mod Tangent
+pub mod Predict
 pub mod Leaving

@@ -8,29 +8,36 @@ ghost use Rattle.marching.specs.Leaving.{lesserOf, considerOf, firstExit
 // The parameter that a move takes out of its window first, and the bound that it oversteps.
 pub enum Exit {
     Nowhere,
-    At(usize, f64),
+    At { index: usize, bound: f64 },
 }
 
 // The exit found so far, with the fraction of the move at which it lies.
 enum First {
     Nothing,
-    At(usize, f64, f64),
+    At {
+        index: usize,
+        bound: f64,
+        fraction: f64,
+    },
 }
 
 // The lesser of the exit so far and another; the one so far on a tie, and also where either fraction is a NaN.
-fn lesser(first: First, k: usize, bound: f64, fraction: f64) -> First
-    ensures { λ r. ⌜ r ≡ lesserOf first k bound fraction ⌝ }
+fn lesser(first: First, index: usize, bound: f64, fraction: f64) -> First
+    ensures { λ r. ⌜ r ≡ lesserOf first index bound fraction ⌝ }
 {
-    match first {
-        First::Nothing => First::At(k, bound, fraction),
-        First::At(j, b, f) => {
-            if fraction < f {
-                First::At(k, bound, fraction)
-            } else {
-                First::At(j, b, f)
-            }
-        }
-    }
+    let other = First::At {
+        index,
+        bound,
+        fraction,
+    };
+    let First::At {
+        fraction: least,
+        ..
+    } = first
+    else {
+        return other;
+    };
+    if fraction < least { other } else { first }
 }
 
 // The first exit so far, with parameter k taken into account, which moves from x to y.
@@ -72,6 +79,6 @@ pub fn leaving(a: Patch, b: Patch, x: Parameters, y: Parameters) -> Exit
     let first = first_exit(a, b, x, y);
     match first {
         First::Nothing => Exit::Nowhere,
-        First::At(k, bound, _) => Exit::At(k, bound),
+        First::At { index, bound, .. } => Exit::At { index, bound },
     }
 }

@@ -13,6 +13,7 @@ use Rattle.number.specs.Operators.{_≤?_}
 use Rattle.geometry.specs.declared.point.Point3D.{Point3D}
 use Rattle.geometry.specs.declared.vector.Vector3D.{Vector3D}
 use Rattle.geometry.specs.declared.tolerance.Tolerance.{Tolerance}
+use Rattle.geometry.specs.Tolerance.{toleranceFit}
 use Rattle.geometry.specs.Point.{distanceOf, longestChord}
 use Rattle.gap.proofs.Gap.{distance-swap}
 use Rattle.patch.specs.declared.patch.Patch.{Patch}
@@ -44,7 +45,7 @@ pub record HalfFine (a b : Patch) (confusion : Float) (x : Parameters) (n : ℕ)
   pub good : All (IsIntersection a b confusion) points
   pub ends : Ends a x points closed
 
-module _ (a b : Patch) (tol : Tolerance) (dir : Float) (x : Parameters) (gx : IsIntersection a b (tol .confusion) x) (n : ℕ) where
+module _ (a b : Patch) (tol : Tolerance) (fit : T (toleranceFit tol)) (dir : Float) (x : Parameters) (gx : IsIntersection a b (tol .confusion) x) (n : ℕ) where
   -- before turn i: the walker stands on the last point
   record Sofar (i : ℕ) (s : Halfway) : Type 0 where
     few : length (s .points) ≤ i
@@ -56,7 +57,7 @@ module _ (a b : Patch) (tol : Tolerance) (dir : Float) (x : Parameters) (gx : Is
   Done v = HalfFine a b (tol .confusion) x n (v .points) (v .closed)
 
   -- a new point joins the chain
-  joins : (ps : List Parameters) (p : Point3D) (y : Parameters) (q : Point3D) → p ≡ pointA a (firstOr (Near a) x ps) → Fine a b (tol .confusion) p y q
+  joins : (ps : List Parameters) (p : Point3D) (y : Parameters) (q : Point3D) → p ≡ pointA a (firstOr (Near a) x ps) → Fine a b tol p y q
       → Linked (Near a) (ps ++ (x ∷ [])) → Linked (Near a) (y ∷ (ps ++ (x ∷ [])))
   joins ps p y q e f l =
       linked-front (Near a) y x ps
@@ -76,18 +77,18 @@ module _ (a b : Patch) (tol : Tolerance) (dir : Float) (x : Parameters) (gx : Is
     ends = came-round refl (y ∷ ys) refl (omega arith) l;
   }
 
-  after : (i : ℕ) (s : Halfway) → i < n → Sofar i s → (r : Stepped) → SteppedFine a b (tol .confusion) (length (s .points)) (s .w .p) r
+  after : (i : ℕ) (s : Halfway) → i < n → Sofar i s → (r : Stepped) → SteppedFine a b tol (length (s .points)) (s .w .p) r
       → Kept (Sofar (i + 1)) Done (afterStep x (s .points) r)
   after i s h v (Onward w k) f = record {
     few = let e = v .few in omega (arith, e);
-    good = (f .good, v .good);
+    good = (f .good fit, v .good);
     linked = joins (s .points) (s .w .p) (w .x) (w .p) (v .stands) f (v .linked);
     stands = f .own;
   }
   after i s h v (Closed removed) f = closes (s .points) removed (let e = v .few in omega (arith, e, h)) f (v .good) (v .linked)
   after i s h v (Edge y q) f = record {
     few = let e = v .few in omega (arith, e, h);
-    good = (f .good, v .good);
+    good = (f .good fit, v .good);
     ends = left-open refl (joins (s .points) (s .w .p) y q (v .stands) f (v .linked));
   }
   after i s h v Ended f = record {

@@ -8,9 +8,11 @@ use borrow.Author.Tests.{eqb-false}
 use lib.Ieee.{Float}
 use lib.ListN.{length, getD, length-append, length-reverse, List·getD-append}
 use lib.Seq.{getD-append-seam}
+use lib.Dec.{T}
 use Rattle.loops.specs.Loop.{pick}
 use Rattle.geometry.specs.declared.vector.Vector3D.{Vector3D}
 use Rattle.geometry.specs.declared.tolerance.Tolerance.{Tolerance}
+use Rattle.geometry.specs.Tolerance.{toleranceFit}
 use Rattle.patch.specs.declared.patch.Patch.{Patch}
 use Rattle.patch.specs.declared.patch.Parameters.{Parameters}
 use Rattle.meeting.specs.Intersection.{IsIntersection}
@@ -124,11 +126,11 @@ module _ (a b : Patch) (confusion : Float) (x : Parameters) (gx : IsIntersection
           (subst (λ (s : List Parameters). LineFine a b confusion x n (x ∷ reverse s) 0 1) (sym d)
           (closed-made kept (subst (λ (s : List Parameters). length s ≤ n) d (f .few)) (subst (All (IsIntersection a b confusion)) d (f .good)) p))
 
-pub line-fine : (a b : Patch) (tol : Tolerance) (x : Parameters) → IsIntersection a b (tol .confusion) x → (t : Vector3D) (n : ℕ)
+pub line-fine : (a b : Patch) (tol : Tolerance) → T (toleranceFit tol) → (x : Parameters) → IsIntersection a b (tol .confusion) x → (t : Vector3D) (n : ℕ)
     → LineFine a b (tol .confusion) x n (lineOf a b tol x t n .points) (lineOf a b tol x t n .start) (lineOf a b tol x t n .closing)
 unfolding lineOf
-line-fine a b tol x gx t n =
+line-fine a b tol fit x gx t n =
     line-made a b (tol .confusion) x gx n
     (halfOf a b tol forward x t n .points) (halfOf a b tol forward x t n .closed)
     (halfOf a b tol backward x t n .points) (halfOf a b tol backward x t n .closed)
-    (half-fine a b tol forward x gx n t) (half-fine a b tol backward x gx n t)
+    (half-fine a b tol fit forward x gx n t) (half-fine a b tol fit backward x gx n t)

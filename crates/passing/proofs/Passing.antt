@@ -24,9 +24,9 @@ use Rattle.patch.specs.Patch.{fitnessOf}
 use Rattle.meeting.specs.declared.newton.Met.{Met}
 use Rattle.meeting.specs.declared.newton.Met.the-variants as met
 use Rattle.meeting.specs.Newton.{meetOf}
-use Rattle.marching.specs.declared.tangent.Direction.{Direction}
-use Rattle.marching.specs.declared.tangent.Direction.the-variants as direction
-use Rattle.marching.specs.Tangent.{tangentOf}
+use Rattle.tangent.specs.declared.Direction.{Direction}
+use Rattle.tangent.specs.declared.Direction.the-variants as direction
+use Rattle.tangent.specs.Tangent.{tangentOf}
 use Rattle.meeting.specs.Intersection.{IsIntersection}
 use Rattle.meeting.proofs.Intersection.{meet-intersects}
 use Rattle.certificate.specs.Passes.{Passes}
@@ -82,7 +82,7 @@ module _ (a b : Patch) (tol : Tolerance) (fa : fitnessOf a ≡ verdict.Passed) (
       go false e q = absurd (unlined q)
 
   direction-passing : (x : Parameters) → IsIntersection a b (tol .confusion) x → (d : Direction) → Passing (afterDirection a b tol n x d)
-  direction-passing x g (direction.Along t) = settled-passing x (lineOf a b tol x t n) (line-fine a b tol x g t n)
+  direction-passing x g (direction.Along t) = settled-passing x (lineOf a b tol x t n) (line-fine a b tol fit x g t n)
   direction-passing x g direction.Missing = λ q. absurd (unlined q)
 
   seed-passing : (guess : Parameters) (m : Met) → meetOf a b guess tol ≡ m → Passing (afterSeed a b tol n m)

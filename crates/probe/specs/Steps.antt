@@ -7,13 +7,14 @@ use lib.Ieee.{Float, nan}
 use Rattle.loops.specs.Loop.{pick}
 use Rattle.probe.specs.Probe.{Probed, probed, orShort}
 use Rattle.probe.specs.Call.{pointFrom, vectorFrom, parametersFrom, callFrom, putVector, putParameters}
-use Rattle.marching.specs.declared.tangent.Direction.{Direction}
-use Rattle.marching.specs.declared.tangent.Direction.the-variants as direction
+use Rattle.tangent.specs.declared.Direction.{Direction}
+use Rattle.tangent.specs.declared.Direction.the-variants as direction
 use Rattle.marching.specs.declared.leaving.Exit.{Exit}
 use Rattle.marching.specs.declared.leaving.Exit.the-variants as exit
 use Rattle.meeting.specs.declared.newton.Met.{Met}
 use Rattle.meeting.specs.declared.newton.Met.the-variants as met
-use Rattle.marching.specs.Tangent.{tangentOf, predictOf}
+use Rattle.tangent.specs.Tangent.{tangentOf}
+use Rattle.marching.specs.Predict.{predictOf}
 use Rattle.marching.specs.Leaving.{leavingOf}
 use Rattle.meeting.specs.Newton.{meetOf, meetInPlaneOf, landOf}
 

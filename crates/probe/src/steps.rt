@@ -8,9 +8,9 @@ use crate::call::put_parameters;
 use crate::call::put_vector;
 use crate::call::read;
 use crate::call::vector;
-use marching::Direction;
 use marching::Exit;
 use meeting::Met;
+use tangent::Direction;
 ghost use mathlib.Core.Path.{_≡_};
 ghost use Rattle.probe.specs.Probe.{probed};
 ghost use Rattle.probe.specs.Steps.{probeTangent, probePredict, probeLeaving, probeMeet, probeMeetInPlane, probeLand, probeStep};
@@ -26,7 +26,7 @@ fn probe_tangent(input: &[f64], output: &mut [f64]) -> u64
         return 9;
     }
     let c = read(input);
-    let direction = marching::tangent::tangent(c.a, c.b, c.x, c.tol);
+    let direction = tangent::tangent(c.a, c.b, c.x, c.tol);
     match direction {
         Direction::Along(d) => {
             put_vector(output, d);
@@ -48,7 +48,7 @@ fn probe_predict(input: &[f64], output: &mut [f64]) -> u64
     }
     let c = read(input);
     let d = vector(input, 48);
-    let y = marching::tangent::predict(c.a, c.b, c.x, d);
+    let y = marching::predict::predict(c.a, c.b, c.x, d);
     put_parameters(output, y);
     1
 }
@@ -67,9 +67,9 @@ fn probe_leaving(input: &[f64], output: &mut [f64]) -> u64
     let y = parameters(input, 48);
     let exit = marching::leaving::leaving(c.a, c.b, c.x, y);
     match exit {
-        Exit::At(k, bound) => {
+        Exit::At { index, bound } => {
             output[0] = bound;
-            k as u64
+            index as u64
         }
         Exit::Nowhere => 4,
     }

@@ -15,17 +15,18 @@ use Rattle.patch.specs.declared.patch.Patch.{Patch}
 use Rattle.patch.specs.declared.patch.Parameters.{Parameters}
 use Rattle.meeting.specs.declared.newton.Met.{Met}
 use Rattle.meeting.specs.declared.newton.Met.the-variants as met
-use Rattle.marching.specs.declared.tangent.Direction.{Direction}
-use Rattle.marching.specs.declared.tangent.Direction.the-variants as direction
+use Rattle.tangent.specs.declared.Direction.{Direction}
+use Rattle.tangent.specs.declared.Direction.the-variants as direction
 use Rattle.marching.specs.declared.leaving.Exit.{Exit}
 use Rattle.marching.specs.declared.leaving.Exit.the-variants as exit
-use Rattle.marching.specs.Tangent.{tangentOf, predictOf}
+use Rattle.tangent.specs.Tangent.{tangentOf}
+use Rattle.marching.specs.Predict.{predictOf}
 use Rattle.marching.specs.Leaving.{leavingOf}
 use Rattle.patch.specs.Located.{pointA}
 use Rattle.meeting.specs.Newton.{meetInPlaneOf, landOf}
 use Rattle.step.specs.declared.attempt.Walker.{Walker}
-use Rattle.step.specs.declared.attempt.Tried.{Tried}
-use Rattle.step.specs.declared.attempt.Tried.the-variants.{Inner, Edge, Nothing}
+use Rattle.step.specs.declared.attempt.Stride.{Stride}
+use Rattle.step.specs.declared.attempt.Stride.the-variants.{Inner, Edge, Nothing}
 
 -- FREE_TURN, 0.05
 abbrev pub freeTurn : Float
@@ -50,12 +51,12 @@ unfoldable pub landingKept : Walker → Float → Point3D → Bool
 landingKept w h q = bits 0 ≤? dotOf (differenceOf q (w .p)) (w .t) && keptOf (distanceOf q (w .p)) h
 
 -- an edge point where `land` found one that may be kept
-abbrev pub afterLanding : Patch → Walker → Float → Met → Tried
+abbrev pub afterLanding : Patch → Walker → Float → Met → Stride
 afterLanding a w h (met.At y) = pick (landingKept w h (pointA a y)) (Edge y (pointA a y)) Nothing
 afterLanding a w h met.Nothing = Nothing
 
 -- land(a, b, guess, pin, bound, tol), and what follows
-unfoldable pub landedOf : Patch → Patch → Tolerance → Walker → Float → Parameters → ℕ → Float → Tried
+unfoldable pub landedOf : Patch → Patch → Tolerance → Walker → Float → Parameters → ℕ → Float → Stride
 landedOf a b tol w h guess pin bound = afterLanding a w h (landOf a b guess pin bound tol)
 
 -- ---- an inner step
@@ -76,32 +77,36 @@ smoothOf curvature chord turned = turned ≤? maxOf freeTurn (curvatureGrowth �
 unfoldable pub acceptedOf : Float → Walker → Float → Vector3D → Float → Float → Bool
 acceptedOf confusion w h ty chord turned = bits 0 <? dotOf ty (w .t) && (keptOf chord h && (nearCurve confusion chord turned && smoothOf (w .curvature) chord turned))
 
--- the step with its curvature, turn / chord.max(f64::MIN_POSITIVE)
-abbrev pub onwardAt : Float → Walker → Float → Parameters → Point3D → Vector3D → Float → Float → Tried
-onwardAt confusion w h y q ty chord turned = pick (acceptedOf confusion w h ty chord turned) (Inner y q ty (turned ⊘ maxOf chord minPositive)) Nothing
+-- where the half stands next, the curvature being turn / chord.max(f64::MIN_POSITIVE)
+abbrev pub nextWalker : Parameters → Point3D → Vector3D → Float → Float → Walker
+nextWalker y q ty chord turned = record { x = y; p = q; t = ty; curvature = turned ⊘ maxOf chord minPositive }
+
+-- the stride with its length, where it is accepted
+abbrev pub onwardAt : Float → Walker → Float → Parameters → Point3D → Vector3D → Float → Float → Stride
+onwardAt confusion w h y q ty chord turned = pick (acceptedOf confusion w h ty chord turned) (Inner (nextWalker y q ty chord turned) h) Nothing
 
 -- the same with chord = q.distance(p), and the turn
-unfoldable pub onwardOf : Float → Walker → Float → Parameters → Point3D → Vector3D → Tried
+unfoldable pub onwardOf : Float → Walker → Float → Parameters → Point3D → Vector3D → Stride
 onwardOf confusion w h y q ty = onwardAt confusion w h y q ty (distanceOf q (w .p)) (turnOf (w .t) ty)
 
 -- tangent(a, b, y, tol).map(|ty| ty * dir), and what follows
-abbrev pub afterTangent : Patch → Float → Float → Walker → Float → Parameters → Direction → Tried
+abbrev pub afterTangent : Patch → Float → Float → Walker → Float → Parameters → Direction → Stride
 afterTangent a confusion dir w h y (direction.Along d) = onwardOf confusion w h y (pointA a y) (scaleOf d dir)
 afterTangent a confusion dir w h y direction.Missing = Nothing
 
 -- the tangent at the meeting, where there is one
-abbrev pub afterMeeting : Patch → Patch → Tolerance → Float → Walker → Float → Met → Tried
+abbrev pub afterMeeting : Patch → Patch → Tolerance → Float → Walker → Float → Met → Stride
 afterMeeting a b tol dir w h (met.At y) = afterTangent a (tol .confusion) dir w h y (tangentOf a b y tol)
 afterMeeting a b tol dir w h met.Nothing = Nothing
 
 -- the Rust's "correct onto both surfaces in the plane normal to it": meet(a, b, guess, Some((p + t * h, t)), tol)
-unfoldable pub innerOf : Patch → Patch → Tolerance → Float → Walker → Float → Parameters → Tried
+unfoldable pub innerOf : Patch → Patch → Tolerance → Float → Walker → Float → Parameters → Stride
 innerOf a b tol dir w h guess = afterMeeting a b tol dir w h (meetInPlaneOf a b guess (addVectorOf (w .p) (scaleOf (w .t) h)) (w .t) tol)
 
 -- ---- the whole attempt
 
 -- if let Some((pin, bound)) = leaving(a, b, x, guess): land on the edge, else meet
-abbrev pub towards : Patch → Patch → Tolerance → Float → Walker → Float → Parameters → Exit → Tried
+abbrev pub towards : Patch → Patch → Tolerance → Float → Walker → Float → Parameters → Exit → Stride
 towards a b tol dir w h guess exit.Nowhere = innerOf a b tol dir w h guess
 towards a b tol dir w h guess (exit.At pin bound) = landedOf a b tol w h guess pin bound
 
@@ -110,5 +115,5 @@ abbrev pub predicted : Patch → Patch → Walker → Float → Parameters
 predicted a b w h = predictOf a b (w .x) (scaleOf (w .t) h)
 
 -- an attempt from the walker w with the stride h; dir is 1 forward and -1 backward
-unfoldable pub attemptOf : Patch → Patch → Tolerance → Float → Walker → Float → Tried
+unfoldable pub attemptOf : Patch → Patch → Tolerance → Float → Walker → Float → Stride
 attemptOf a b tol dir w h = towards a b tol dir w h (predicted a b w h) (leavingOf a b (w .x) (predicted a b w h))

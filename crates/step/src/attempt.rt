@@ -2,16 +2,17 @@
 use geometry::Point3D;
 use geometry::Tolerance;
 use geometry::Vector3D;
-use marching::Direction;
+use geometry::point::LONGEST_CHORD;
 use marching::Exit;
 use marching::leaving::leaving;
-use marching::tangent::predict;
-use marching::tangent::tangent;
+use marching::predict::predict;
 use meeting::Met;
 use meeting::newton::land;
 use meeting::newton::meet_in_plane;
 use patch::Parameters;
 use patch::Patch;
+use tangent::Direction;
+use tangent::tangent;
 ghost use mathlib.Core.Path.{_≡_};
 ghost use Rattle.step.specs.Attempt.{keptOf, landingKept, turnOf, nearCurve, smoothOf, acceptedOf, onwardOf, innerOf, landedOf, attemptOf};
 
@@ -32,11 +33,11 @@ pub struct Walker {
     pub curvature: f64,
 }
 
-// What a stride leads to: a point within the windows with the direction there and the curvature of the step, a point on a window's edge, or
+// What a stride leads to: a point within the windows, where the half stands next, with the stride's length; a point on a window's edge; or
 // nothing.
-pub enum Tried {
-    Inner(Parameters, Point3D, Vector3D, f64),
-    Edge(Parameters, Point3D),
+pub enum Stride {
+    Inner { next: Walker, length: f64 },
+    Edge { y: Parameters, q: Point3D },
     Nothing,
 }
 
@@ -44,11 +45,7 @@ pub enum Tried {
 fn kept(chord: f64, h: f64) -> bool
     ensures { λ r. ⌜ r ≡ keptOf chord h ⌝ }
 {
-    if chord <= 2.0 * h {
-        chord <= 0.2
-    } else {
-        false
-    }
+    chord <= 2.0 * h && chord <= LONGEST_CHORD
 }
 
 // Whether a landing does not go back, and its chord is short enough.
@@ -57,11 +54,7 @@ fn landing_kept(w: Walker, h: f64, q: Point3D) -> bool
 {
     let p = w.p;
     let t = w.t;
-    if 0.0 <= q.sub(p).dot(t) {
-        kept(q.distance(p), h)
-    } else {
-        false
-    }
+    0.0 <= q.sub(p).dot(t) && kept(q.distance(p), h)
 }
 
 // A point on the window's edge that the stride would overstep.
@@ -74,19 +67,19 @@ fn landed(
     guess: Parameters,
     pin: usize,
     bound: f64,
-) -> Tried
+) -> Stride
     ensures { λ r. ⌜ r ≡ landedOf a b tol w h guess pin bound ⌝ }
 {
     let met = land(a, b, guess, pin, bound, tol);
     let Met::At(y) = met else {
-        return Tried::Nothing;
+        return Stride::Nothing;
     };
     let surface = a.surface;
     let q = surface.eval_point(y.u1, y.v1);
     if landing_kept(w, h, q) {
-        Tried::Edge(y, q)
+        Stride::Edge { y, q }
     } else {
-        Tried::Nothing
+        Stride::Nothing
     }
 }
 
@@ -116,31 +109,27 @@ fn accepted(confusion: f64, w: Walker, h: f64, ty: Vector3D, chord: f64, turned:
     ensures { λ r. ⌜ r ≡ acceptedOf confusion w h ty chord turned ⌝ }
 {
     let t = w.t;
-    if 0.0 < ty.dot(t) {
-        if kept(chord, h) {
-            if near_curve(confusion, chord, turned) {
-                smooth(w.curvature, chord, turned)
-            } else {
-                false
-            }
-        } else {
-            false
-        }
-    } else {
-        false
-    }
+    0.0 < ty.dot(t)
+        && (kept(chord, h)
+            && (near_curve(confusion, chord, turned) && smooth(w.curvature, chord, turned)))
 }
 
-// The step to q with the direction ty, if it is accepted.
-fn onward(confusion: f64, w: Walker, h: f64, y: Parameters, q: Point3D, ty: Vector3D) -> Tried
+// The stride to q with the direction ty, if it is accepted.
+fn onward(confusion: f64, w: Walker, h: f64, y: Parameters, q: Point3D, ty: Vector3D) -> Stride
     ensures { λ r. ⌜ r ≡ onwardOf confusion w h y q ty ⌝ }
 {
     let chord = q.distance(w.p);
     let turned = turn(w.t, ty);
     if accepted(confusion, w, h, ty, chord, turned) {
-        Tried::Inner(y, q, ty, turned / number::max(chord, number::MIN_POSITIVE))
+        let next = Walker {
+            x: y,
+            p: q,
+            t: ty,
+            curvature: turned / number::max(chord, number::MIN_POSITIVE),
+        };
+        Stride::Inner { next, length: h }
     } else {
-        Tried::Nothing
+        Stride::Nothing
     }
 }
 
@@ -153,18 +142,18 @@ fn inner(
     w: Walker,
     h: f64,
     guess: Parameters,
-) -> Tried
+) -> Stride
     ensures { λ r. ⌜ r ≡ innerOf a b tol dir w h guess ⌝ }
 {
     let p = w.p;
     let t = w.t;
     let met = meet_in_plane(a, b, guess, p.add(t.scale(h)), t, tol);
     let Met::At(y) = met else {
-        return Tried::Nothing;
+        return Stride::Nothing;
     };
     let direction = tangent(a, b, y, tol);
     let Direction::Along(d) = direction else {
-        return Tried::Nothing;
+        return Stride::Nothing;
     };
     let surface = a.surface;
     let q = surface.eval_point(y.u1, y.v1);
@@ -172,7 +161,7 @@ fn inner(
 }
 
 // What the stride of length h leads to.
-pub(crate) fn attempt(a: Patch, b: Patch, tol: Tolerance, dir: f64, w: Walker, h: f64) -> Tried
+pub(crate) fn attempt(a: Patch, b: Patch, tol: Tolerance, dir: f64, w: Walker, h: f64) -> Stride
     ensures { λ r. ⌜ r ≡ attemptOf a b tol dir w h ⌝ }
 {
     let x = w.x;
@@ -181,6 +170,6 @@ pub(crate) fn attempt(a: Patch, b: Patch, tol: Tolerance, dir: f64, w: Walker, h
     let exit = leaving(a, b, x, guess);
     match exit {
         Exit::Nowhere => inner(a, b, tol, dir, w, h, guess),
-        Exit::At(pin, bound) => landed(a, b, tol, w, h, guess, pin, bound),
+        Exit::At { index, bound } => landed(a, b, tol, w, h, guess, index, bound),
     }
 }

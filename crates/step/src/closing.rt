@@ -5,6 +5,9 @@ use geometry::Point3D;
 ghost use mathlib.Core.Path.{_≡_};
 ghost use Rattle.step.specs.Closing.{alongOf, closesOf, firstStride, nextStride};
 
+// A chord of length h deviates from its curve by h * h * curvature / 8.
+const SAGITTA: f64 = 8.0;
+
 // How far along the chord from p to q the start lies.
 fn along(start: Point3D, p: Point3D, q: Point3D) -> f64
     ensures { λ r. ⌜ r ≡ alongOf start p q ⌝ }
@@ -18,23 +21,17 @@ pub(crate) fn closes(confusion: f64, start: Point3D, p: Point3D, q: Point3D) -> 
     ensures { λ r. ⌜ r ≡ closesOf confusion start p q ⌝ }
 {
     let s = along(start, p, q);
-    if 0.0 <= s {
-        if s <= 1.0 {
-            let nearest = p.add(q.sub(p).scale(s));
-            nearest.distance(start) <= 4.0 * (CHORD_DEVIATION * confusion) + 10.0 * confusion
-        } else {
-            false
-        }
-    } else {
-        false
-    }
+    0.0 <= s
+        && (s <= 1.0
+            && p.add(q.sub(p).scale(s)).distance(start)
+                <= 4.0 * (CHORD_DEVIATION * confusion) + 10.0 * confusion)
 }
 
 // The length that a half tries first.
 pub fn first_stride(confusion: f64) -> f64
     ensures { λ r. ⌜ r ≡ firstStride confusion ⌝ }
 {
-    number::min(sqrt::sqrt(8.0 * (CHORD_DEVIATION * confusion)), H_MAX)
+    number::min(sqrt::sqrt(SAGITTA * (CHORD_DEVIATION * confusion)), H_MAX)
 }
 
 // The length to try after a stride of length h: twice that, at most 0.1, and short enough for the curvature. No root is taken where the
@@ -42,7 +39,8 @@ pub fn first_stride(confusion: f64) -> f64
 pub(crate) fn next_stride(confusion: f64, h: f64, curvature: f64) -> f64
     ensures { λ r. ⌜ r ≡ nextStride confusion h curvature ⌝ }
 {
-    let square = 8.0 * (CHORD_DEVIATION * confusion) / number::max(curvature, number::MIN_POSITIVE);
+    let square = SAGITTA * (CHORD_DEVIATION * confusion)
+        / number::max(curvature, number::MIN_POSITIVE);
     let longest = number::min(2.0 * h, H_MAX);
     if sqrt::at_most(square, longest) {
         number::min(longest, sqrt::sqrt(square))

@@ -1,8 +1,8 @@
 // One step of a half.
+use crate::attempt::Stride;
 use crate::attempt::Walker;
 use crate::closing::closes;
 use crate::closing::next_stride;
-use crate::shorten::Stride;
 use crate::shorten::shorten;
 use geometry::Point3D;
 use geometry::Tolerance;
@@ -14,9 +14,9 @@ ghost use Rattle.step.specs.Step.{edgeStep, cameRound, innerStep, stepOf
 // What a half does next: it goes on from a new point with a stride's length to try; it closes, the last point being removed first or
 // not; it ends on an edge point; or it ends without a further point.
 pub enum Stepped {
-    Onward(Walker, f64),
+    Onward { next: Walker, length: f64 },
     Closed(bool),
-    Edge(Parameters, Point3D),
+    Edge { y: Parameters, q: Point3D },
     Ended,
 }
 
@@ -25,7 +25,7 @@ fn edge_step(confusion: f64, p: Point3D, y: Parameters, q: Point3D) -> Stepped
     ensures { λ r. ⌜ r ≡ edgeStep confusion p y q ⌝ }
 {
     if number::max(confusion, 1e-7) < q.distance(p) {
-        Stepped::Edge(y, q)
+        Stepped::Edge { y, q }
     } else {
         Stepped::Ended
     }
@@ -35,11 +35,7 @@ fn edge_step(confusion: f64, p: Point3D, y: Parameters, q: Point3D) -> Stepped
 fn came_round(confusion: f64, start: Point3D, held: usize, p: Point3D, q: Point3D) -> bool
     ensures { λ r. ⌜ r ≡ cameRound confusion start held p q ⌝ }
 {
-    if 3 <= held {
-        closes(confusion, start, p, q)
-    } else {
-        false
-    }
+    3 <= held && closes(confusion, start, p, q)
 }
 
 // An inner step closes the line on its start or goes on. The last point goes if it lies nearer the start than a tenth of the stride.
@@ -56,7 +52,8 @@ fn inner_step(
     if came_round(confusion, start, held, p, next.p) {
         Stepped::Closed(p.distance(start) < 0.1 * h)
     } else {
-        Stepped::Onward(next, next_stride(confusion, h, next.curvature))
+        let length = next_stride(confusion, h, next.curvature);
+        Stepped::Onward { next, length }
     }
 }
 
@@ -75,16 +72,10 @@ pub fn step(
 {
     let stride = shorten(a, b, tol, dir, w, h);
     match stride {
-        Stride::Inner(y, q, ty, curvature, length) => {
-            let next = Walker {
-                x: y,
-                p: q,
-                t: ty,
-                curvature,
-            };
+        Stride::Inner { next, length } => {
             inner_step(tol.confusion, start, held, w.p, next, length)
         }
-        Stride::Edge(y, q) => edge_step(tol.confusion, w.p, y, q),
-        Stride::Ended => Stepped::Ended,
+        Stride::Edge { y, q } => edge_step(tol.confusion, w.p, y, q),
+        Stride::Nothing => Stepped::Ended,
     }
 }

@@ -115,8 +115,8 @@ module _ (a b : Patch) (tol : Tolerance) (dir : Float) (x : Parameters) (p : Poi
       step-is : stepped ≡ stepOf a b tol dir (pointA a x) (length (g .points)) w h
       step-is = es ∙ ap (λ (q : Point3D). stepOf a b tol dir q count w h) own ∙ ap (λ (k : ℕ). stepOf a b tol dir (pointA a x) k w h) (g .size)
 
-      pub fine : SteppedFine a b (tol .confusion) count (w .p) stepped
-      fine = subst (SteppedFine a b (tol .confusion) count (w .p)) (sym es) (step-fine a b tol dir p count w h)
+      pub fine : SteppedFine a b tol count (w .p) stepped
+      fine = subst (SteppedFine a b tol count (w .p)) (sym es) (step-fine a b tol dir p count w h)
 
       says : (s : Stepped) → stepped ≡ s → halfBody a b tol dir x i (record { w = w; h = h; points = g .points }) ≡ afterStep x (g .points) s
       says s e = ap (afterStep x (g .points)) (sym step-is ∙ e)
@@ -138,7 +138,7 @@ module _ (a b : Patch) (tol : Tolerance) (dir : Float) (x : Parameters) (p : Poi
         size = let s = g .size in omega (arith, s);
         few = let f = g .few in omega (arith, f);
         within = omega (arith, turn);
-        written = pushed a count l (g .points) (g .size) (g .written) (next .x) (next .p) (subst (SteppedFine a b (tol .confusion) count (w .p)) e fine .own) fits em;
+        written = pushed a count l (g .points) (g .size) (g .written) (next .x) (next .p) (subst (SteppedFine a b tol count (w .p)) e fine .own) fits em;
         room = length-put l (7 * count) (rowFor (next .p) (next .x)) fits em ∙ g .room;
       }
 
@@ -163,14 +163,14 @@ module _ (a b : Patch) (tol : Tolerance) (dir : Float) (x : Parameters) (p : Poi
               ap (λ (v : Half). v .closed) s,
               (
                 let f = g .few in omega (arith, f, turn),
-                pushed a count l (g .points) (g .size) (g .written) y q (subst (SteppedFine a b (tol .confusion) count (w .p)) e fine .own) fits em
+                pushed a count l (g .points) (g .size) (g .written) y q (subst (SteppedFine a b tol count (w .p)) e fine .own) fits em
                     ∙ ap (λ (v : Half). rowsOf a (reverse (v .points))) s,
               ),
             ),
           )
 
       pub held : (removed : Bool) → stepped ≡ Closed removed → 3 ≤ count
-      held removed e = subst (SteppedFine a b (tol .confusion) count (w .p)) e fine
+      held removed e = subst (SteppedFine a b tol count (w .p)) e fine
 
       -- what is left where the half closes
       rest : (removed : Bool) → stepped ≡ Closed removed

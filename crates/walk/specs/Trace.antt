@@ -21,9 +21,9 @@ use Rattle.refusal.specs.declared.Verdict.the-variants as verdict
 use Rattle.patch.specs.Patch.{fitnessOf}
 use Rattle.meeting.specs.declared.newton.Met.{Met}
 use Rattle.meeting.specs.declared.newton.Met.the-variants as met
-use Rattle.marching.specs.declared.tangent.Direction.{Direction}
-use Rattle.marching.specs.declared.tangent.Direction.the-variants as direction
-use Rattle.marching.specs.Tangent.{tangentOf}
+use Rattle.tangent.specs.declared.Direction.{Direction}
+use Rattle.tangent.specs.declared.Direction.the-variants as direction
+use Rattle.tangent.specs.Tangent.{tangentOf}
 use Rattle.meeting.specs.Newton.{meetOf}
 use Rattle.walk.specs.Lent.{rowsOf}
 use Rattle.walk.specs.Line.{lineOf}

@@ -67,7 +67,7 @@ pub(crate) fn half(
     for _ in 0..n {
         let stepped = step(a, b, tol, dir, p, count, w, h);
         match stepped {
-            Stepped::Onward(next, length) => {
+            Stepped::Onward { next, length } => {
                 put(&mut *out, groups::WIDTH * count, row_for(next.p, next.x));
                 count = count + 1;
                 w = next;
@@ -81,7 +81,7 @@ pub(crate) fn half(
                     closed: true,
                 };
             }
-            Stepped::Edge(y, q) => {
+            Stepped::Edge { y, q } => {
                 put(&mut *out, groups::WIDTH * count, row_for(q, y));
                 return Reached {
                     count: count + 1,

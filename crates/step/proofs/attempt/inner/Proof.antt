@@ -34,8 +34,10 @@ enum-told-2 c = search needs
 returns-2 : tie.Need-returns-2
 unfolding innerOf
 returns-2 c =
-    let c2 = c .before .before in let c4 = c2 .before .before in let c6 = c4 .before .before in let c7 = c6 .before in let c8 = c7 .before in
-    rw (← c8 .scale .ensures, ← c7 .add .ensures, ← c6 .meet-in-plane .ensures, c4 .met .given .1, ← c2 .tangent .ensures, c .enum-told2 .given .1)
+    let t = c .before .before in
+    let m = t .before .before in
+    let p = m .before .before in
+    rw (← p .before .before .scale .ensures, ← p .before .add .ensures, ← p .meet-in-plane .ensures, m .met .given .1, ← t .tangent .ensures, c .enum-told2 .given .1)
 
 eval-point-requires : tie.Need-eval-point-requires
 eval-point-requires c κs = search needs
@@ -49,9 +51,16 @@ onward-requires c κs = search needs
 returns-3 : tie.Need-returns-3
 unfolding innerOf
 returns-3 c =
-    let c1 = c .before in let c2 = c1 .before in let c4 = c2 .before .before in let c6 = c4 .before .before in let c8 = c6 .before .before in
-    let c10 = c8 .before .before in let c11 = c10 .before in let c12 = c11 .before in
-    rw (c .onward .ensures, c1 .scale2 .ensures, c2 .eval-point .ensures, ← c12 .scale .ensures, ← c11 .add .ensures, ← c10 .meet-in-plane .ensures, c8 .met .given .1, ← c6 .tangent .ensures, c4 .direction .given .1)
+    let q = c .before .before in
+    let d = q .before .before in
+    let t = d .before .before in
+    let m = t .before .before in
+    let p = m .before .before in
+    rw (c .onward .ensures, c .before .scale2 .ensures, q .eval-point .ensures, ← p .before .before .scale .ensures, ← p .before .add .ensures, ← p .meet-in-plane .ensures)
+    (rw (m .met .given .1, ← t .tangent .ensures, d .direction .given .1))
 
 pub inner-spec : {M : Type 1} → statement M
-inner-spec = tie.close (tie.spec scale-requires add-requires meet-in-plane-requires enum-known-met enum-told returns tangent-requires enum-known-direction enum-told-2 returns-2 eval-point-requires scale-requires-2 onward-requires returns-3)
+inner-spec =
+    tie.close
+    (tie.spec scale-requires add-requires meet-in-plane-requires enum-known-met enum-told returns tangent-requires enum-known-direction enum-told-2 returns-2
+    eval-point-requires scale-requires-2 onward-requires returns-3)

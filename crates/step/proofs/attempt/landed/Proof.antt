@@ -24,11 +24,17 @@ landing-kept-requires c κs = search needs
 
 returns-2 : tie.Need-returns-2
 unfolding landedOf
-returns-2 c = rw (← c .before .before .before .before .before .before .land .ensures, c .before .before .before .before .met .given .1, ← c .before .before .eval-point .ensures, ← c .before .landing-kept .ensures, c .if1 .taken)
+returns-2 c =
+    let q = c .before .before in
+    let m = q .before .before in
+    rw (← m .before .before .land .ensures, m .met .given .1, ← q .eval-point .ensures, ← c .before .landing-kept .ensures, c .if1 .taken)
 
 returns-3 : tie.Need-returns-3
 unfolding landedOf
-returns-3 c = rw (← c .before .before .before .before .before .before .land .ensures, c .before .before .before .before .met .given .1, ← c .before .before .eval-point .ensures, ← c .before .landing-kept .ensures, c .if1 .left)
+returns-3 c =
+    let q = c .before .before in
+    let m = q .before .before in
+    rw (← m .before .before .land .ensures, m .met .given .1, ← q .eval-point .ensures, ← c .before .landing-kept .ensures, c .if1 .left)
 
 pub landed-spec : {M : Type 1} → statement M
 landed-spec = tie.close (tie.spec land-requires enum-known-met enum-told returns eval-point-requires landing-kept-requires returns-2 returns-3)

@@ -17,7 +17,9 @@ max-requires c κs = search needs
 
 returns : tie.Need-returns
 unfolding onwardOf
-returns c = rw (c .max .ensures, ← c .before .before .before .before .distance .ensures, ← c .before .before .before .turn .ensures, ← c .before .before .accepted .ensures, c .before .if1 .taken)
+returns c =
+    let i = c .before in
+    rw (c .max .ensures, ← i .before .before .before .distance .ensures, ← i .before .before .turn .ensures, ← i .before .accepted .ensures, i .if1 .taken)
 
 returns-2 : tie.Need-returns-2
 unfolding onwardOf

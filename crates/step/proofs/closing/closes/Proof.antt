@@ -1,16 +1,7 @@
-use mathlib.Core.Path.{_≡_}
-use mathlib.Core.Bool.{Bool}
-use lib.Ieee.{Float}
 use borrow.Author.Needs.{needs}
-use Rattle.number.specs.Operators.{_≤?_}
-use Rattle.number.specs.Helpers.{one}
 use Rattle.step.specs.Closing.{closesOf}
 use Rattle.step.proofs.closing.closes.Statement.{statement}
 use Rattle.step.proofs.closing.closes.Tie as tie
-
--- the test of the chord's end
-before-end : (s : Float) {b : Bool} → (s ≤? one) ≡ b → (s ≤? one) ≡ b
-before-end s h = h
 
 along-requires : tie.Need-along-requires
 along-requires c κs = search needs
@@ -31,11 +22,11 @@ returns : tie.Need-returns
 unfolding closesOf
 returns c =
     let c1 = c .before in let c2 = c1 .before in let c3 = c2 .before in let c4 = c3 .before in let c5 = c4 .before in let c6 = c5 .before in
-    rw (← c6 .along .ensures, c5 .if1 .taken, before-end _ (c4 .if2 .taken), ← c3 .sub .ensures, ← c2 .scale .ensures, ← c1 .add .ensures, ← c .distance .ensures)
+    rw (← c6 .along .ensures, c5 .if1 .taken, c4 .if2 .taken, ← c3 .sub .ensures, ← c2 .scale .ensures, ← c1 .add .ensures, ← c .distance .ensures)
 
 returns-2 : tie.Need-returns-2
 unfolding closesOf
-returns-2 c = rw (← c .before .before .along .ensures, c .before .if1 .taken, before-end _ (c .if2 .left))
+returns-2 c = rw (← c .before .before .along .ensures, c .before .if1 .taken, c .if2 .left)
 
 returns-3 : tie.Need-returns-3
 unfolding closesOf

@@ -3,25 +3,16 @@ use borrow.Author.Needs.{needs}
 use mathlib.Core.Path.{_≡_, refl, sym, subst, _∙_}
 use mathlib.Core.Bool.{Bool, true, false, not, cond}
 use lib.Dec.{T}
-use lib.Ieee.{Float, isNan, ofBits}
+use lib.Ieee.{Float, isNan}
 use Rattle.number.specs.Operators.{_<?_, _≤?_}
 use Rattle.number.specs.Helpers.{minOf}
-use Rattle.number.proofs.Order.{lt→le}
+use Rattle.number.proofs.Order.{le-numbers, lt→le}
+use Rattle.number.proofs.Order.{min-right}
 use Rattle.step.specs.Shorten.{longestStride}
 use Rattle.step.specs.Closing.{nextStride}
+use Rattle.step.proofs.Halving.{tenth-number}
 use Rattle.step.proofs.closing.next_stride.Statement.{statement}
 use Rattle.step.proofs.closing.next_stride.Tie as tie
-
--- a minimum with a number is a number
-min-number : (a b : Float) → T (not (isNan b)) → T (not (isNan (minOf a b)))
-unfolding minOf
-min-number a b h = go (isNan a) (isNan b) (b <? a) refl refl
-  where
-    go : (m n l : Bool) → isNan a ≡ m → isNan b ≡ n → T (not (isNan (cond m b (cond n a (cond l b a)))))
-    go true n l p q = h
-    go false true l p q = absurd (subst (λ (t : Bool). T (not t)) q h)
-    go false false true p q = h
-    go false false false p q = subst (λ (t : Bool). T (not t)) (sym p) tt
 
 -- what is not at most a number leaves it as the minimum
 left-alone : (m y : Float) → T (not (isNan m)) → (y ≤? m) ≡ false → m ≡ minOf m y
@@ -36,8 +27,7 @@ left-alone m y h e = go (isNan m) (isNan y) (y <? m) refl (lt→le y m)
 
 -- twice the stride, at most 0.1
 longest-number : (a : Float) → T (not (isNan (minOf a longestStride)))
-unfolding ofBits isNan
-longest-number a = min-number a longestStride tt
+longest-number a = le-numbers _ longestStride (min-right a longestStride tenth-number) .0
 
 max-requires : tie.Need-max-requires
 max-requires c κs = search needs

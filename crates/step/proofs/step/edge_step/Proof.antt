@@ -1,25 +1,16 @@
-use mathlib.Core.Path.{_≡_}
-use mathlib.Core.Bool.{true, false}
+use mathlib.Core.Path.{_≡_, refl}
+use mathlib.Core.Bool.{Bool}
 use lib.Ieee.{Float}
 use borrow.Author.Needs.{needs}
-use Rattle.number.specs.Operators.{bits, _<?_}
-use Rattle.number.specs.Helpers.{maxOf}
-use Rattle.geometry.specs.declared.point.Point3D.{Point3D}
-use Rattle.geometry.specs.Point.{distanceOf}
-use Rattle.patch.specs.declared.patch.Parameters.{Parameters}
-use Rattle.step.specs.declared.step.Stepped.the-variants.{Edge, Ended}
+use Rattle.loops.proofs.Choice.{pick-taken, pick-left}
+use Rattle.number.specs.Operators.{_<?_}
 use Rattle.step.specs.Step.{edgeStep}
 use Rattle.step.proofs.step.edge_step.Statement.{statement}
 use Rattle.step.proofs.step.edge_step.Tie as tie
 
-module _ (confusion : Float) (p : Point3D) (y : Parameters) (q : Point3D) {m d : Float} (least : m ≡ maxOf confusion (bits 0x3E7A_D7F2_9ABC_AF48)) (chord : d ≡ distanceOf q p) where
-  far : (m <? d) ≡ true → Edge y q ≡ edgeStep confusion p y q
-  unfolding edgeStep
-  far h = rw (← least, ← chord, h)
-
-  close : (m <? d) ≡ false → Ended ≡ edgeStep confusion p y q
-  unfolding edgeStep
-  close h = rw (← least, ← chord, h)
+-- the test of the chord
+less : {m n d e : Float} {b : Bool} → m ≡ n → d ≡ e → (m <? d) ≡ b → (n <? e) ≡ b
+less p q h = rw (← p, ← q) h
 
 max-requires : tie.Need-max-requires
 max-requires c κs = search needs
@@ -28,10 +19,12 @@ distance-requires : tie.Need-distance-requires
 distance-requires c κs = search needs
 
 returns : tie.Need-returns
-returns c = far _ _ _ _ (c .before .before .max .ensures) (c .before .distance .ensures) (c .if1 .taken)
+unfolding edgeStep
+returns c = pick-taken _ (less (c .before .before .max .ensures) (c .before .distance .ensures) (c .if1 .taken)) refl
 
 returns-2 : tie.Need-returns-2
-returns-2 c = close _ _ _ _ (c .before .before .max .ensures) (c .before .distance .ensures) (c .if1 .left)
+unfolding edgeStep
+returns-2 c = pick-left _ (less (c .before .before .max .ensures) (c .before .distance .ensures) (c .if1 .left)) refl
 
 pub edge-step-spec : {M : Type 1} → statement M
 edge-step-spec = tie.close (tie.spec max-requires distance-requires returns returns-2)

@@ -12,8 +12,8 @@ use Rattle.patch.specs.declared.patch.Patch.{Patch}
 use Rattle.patch.specs.declared.patch.Parameters.{Parameters}
 use Rattle.meeting.specs.declared.newton.Met.the-variants as met
 use Rattle.meeting.specs.Newton.{meetOf}
-use Rattle.marching.specs.declared.tangent.Direction.the-variants as direction
-use Rattle.marching.specs.Tangent.{tangentOf}
+use Rattle.tangent.specs.declared.Direction.the-variants as direction
+use Rattle.tangent.specs.Tangent.{tangentOf}
 use Rattle.walk.specs.Line.{lineOf}
 use Rattle.walk.specs.Trace.{Outcome, refusedWalk, settled, walkOf}
 use Rattle.walk.proofs.Lines.{cleared}

@@ -1,7 +1,7 @@
 use borrow.Author.Needs.{needs}
-use Rattle.marching.specs.Tangent.{tangentOf}
-use Rattle.marching.proofs.tangent.tangent.Statement.{statement}
-use Rattle.marching.proofs.tangent.tangent.Tie as tie
+use Rattle.tangent.specs.Tangent.{tangentOf}
+use Rattle.tangent.proofs.tangent.Statement.{statement}
+use Rattle.tangent.proofs.tangent.Tie as tie
 
 normal-requires : tie.Need-normal-requires
 normal-requires c κs = search needs

@@ -3,9 +3,9 @@ use mathlib.Core.Path.{_≡_, refl, sym}
 use Rattle.sqrt.specs.Sqrt.{sqrtOf}
 use Rattle.geometry.specs.declared.vector.Vector3D.{Vector3D}
 use Rattle.geometry.specs.Vector.{dotOf, crossOf, squareMagnitudeOf, magnitudeOf}
-use Rattle.marching.specs.Tangent.{unitCross}
-use Rattle.marching.proofs.tangent.unit_cross.Statement.{statement}
-use Rattle.marching.proofs.tangent.unit_cross.Tie as tie
+use Rattle.tangent.specs.Tangent.{unitCross}
+use Rattle.tangent.proofs.unit_cross.Statement.{statement}
+use Rattle.tangent.proofs.unit_cross.Tie as tie
 
 -- a magnitude is the root of a vector's product with itself
 root-of : (v : Vector3D) → magnitudeOf v ≡ sqrtOf (dotOf v v)
@@ -34,17 +34,24 @@ returns : tie.Need-returns
 unfolding unitCross
 returns c =
     let p = c .before in
-    let s = p .before .before .before .before .before in
-    let t : crossOf (s .args .na) (s .args .nb) ≡ p .before .before .before .before .cross .result = sym (p .before .before .before .before .cross .ensures) in
-    rw (t, ← p .before .before .before .magnitude .ensures, root-of (s .args .na), root-of (s .args .nb), ← p .before .before .dot .ensures, ← p .before .dot2 .ensures, ← p .parallel .ensures, c .if1 .taken)
+    let d = p .before .before in
+    let m = d .before in
+    let x = m .before in
+    let s = x .before .args in
+    let t : crossOf (s .na) (s .nb) ≡ x .cross .result = sym (x .cross .ensures) in
+    rw (t, ← m .magnitude .ensures, root-of (s .na), root-of (s .nb), ← d .dot .ensures, ← p .before .dot2 .ensures, ← p .parallel .ensures, c .if1 .taken)
 
 returns-2 : tie.Need-returns-2
 unfolding unitCross
 returns-2 c =
-    let p = c .before .before in
-    let s = p .before .before .before .before .before in
-    let t : crossOf (s .args .na) (s .args .nb) ≡ p .before .before .before .before .cross .result = sym (p .before .before .before .before .cross .ensures) in
-    rw (t, ← p .before .before .before .magnitude .ensures, root-of (s .args .na), root-of (s .args .nb), ← p .before .before .dot .ensures, ← p .before .dot2 .ensures, ← p .parallel .ensures, c .before .if1 .left, ← c .scale .ensures)
+    let i = c .before in
+    let p = i .before in
+    let d = p .before .before in
+    let m = d .before in
+    let x = m .before in
+    let s = x .before .args in
+    let t : crossOf (s .na) (s .nb) ≡ x .cross .result = sym (x .cross .ensures) in
+    rw (t, ← m .magnitude .ensures, root-of (s .na), root-of (s .nb), ← d .dot .ensures, ← p .before .dot2 .ensures, ← p .parallel .ensures, i .if1 .left, ← c .scale .ensures)
 
 pub unit-cross-spec : {M : Type 1} → statement M
 unit-cross-spec =

@@ -1,7 +1,7 @@
 use borrow.Author.Needs.{needs}
-use Rattle.marching.specs.Tangent.{normalOf}
-use Rattle.marching.proofs.tangent.normal.Statement.{statement}
-use Rattle.marching.proofs.tangent.normal.Tie as tie
+use Rattle.tangent.specs.Tangent.{normalOf}
+use Rattle.tangent.proofs.normal.Statement.{statement}
+use Rattle.tangent.proofs.normal.Tie as tie
 
 eval-d1-requires : tie.Need-eval-d1-requires
 eval-d1-requires c κs = search needs

@@ -94,7 +94,7 @@ root-most x m =
     subst (λ (y : Float). T (sqrtOf x ≤? y)) high-is
     (sqrt-mono x top (m .fit) fits-top (positive-finite x p) (positive-finite top positive-top) (not-negative x p) (not-negative top positive-top) (m .most))
 
-module _ (x y : Float) (mx : Moderate x) (my : Moderate y) where
+module _ {x y : Float} (mx : Moderate x) (my : Moderate y) where
   positive-root : (z : Float) → Moderate z → T (positive (sqrtOf z))
   positive-root z m = between low (sqrtOf z) high positive-low positive-high (root-least z m) (root-most z m)
 
@@ -126,8 +126,8 @@ module _ (x y : Float) (mx : Moderate x) (my : Moderate y) where
       go false false false h f = refl
 
   -- where even 2^20 in the scale's place leaves the length above, the length is not at most what it is compared with
-  pub not-parallel : (angular length : Float) → Moderate angular → T (angular ⊗ top <? length) → (length ≤? angular ⊗ maxOf scale minPositive) ≡ false
-  not-parallel angular length ma l =
+  pub not-parallel : {angular : Float} → Moderate angular → (length : Float) → T (angular ⊗ top <? length) → (length ≤? angular ⊗ maxOf scale minPositive) ≡ false
+  not-parallel {angular} ma length l =
       let p = positive-of angular ma in
       let below = mul-mono binary64 angular angular scale top p p positive-scale positive-top (le-self angular (number angular p)) scale-most in
       let less : T (angular ⊗ scale <? length) = le-lt-through (angular ⊗ scale) (angular ⊗ top) length below l in

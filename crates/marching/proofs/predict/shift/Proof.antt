@@ -1,8 +1,8 @@
 use mathlib.Core.Path.{sym, ap, _∙_}
 use borrow.Author.Needs.{needs}
-use Rattle.marching.specs.Tangent.{orZero}
-use Rattle.marching.proofs.tangent.shift.Statement.{statement}
-use Rattle.marching.proofs.tangent.shift.Tie as tie
+use Rattle.marching.specs.Predict.{orZero}
+use Rattle.marching.proofs.predict.shift.Statement.{statement}
+use Rattle.marching.proofs.predict.shift.Tie as tie
 
 dot-requires : tie.Need-dot-requires
 dot-requires c κs = search needs

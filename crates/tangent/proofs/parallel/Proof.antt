@@ -1,11 +1,11 @@
--- The quick test of `Parallel`, or the roots.
+-- The quick test, or the roots.
 use borrow.Author.Needs.{needs}
 use mathlib.Core.Path.{_≡_, sym, subst}
 use mathlib.Core.Bool.{Bool, true}
 use lib.Dec.{T}
-use Rattle.marching.proofs.Parallel.{not-parallel}
-use Rattle.marching.proofs.tangent.parallel.Statement.{statement}
-use Rattle.marching.proofs.tangent.parallel.Tie as tie
+use Rattle.tangent.proofs.Roots.{Moderate, not-parallel}
+use Rattle.tangent.proofs.parallel.Statement.{statement}
+use Rattle.tangent.proofs.parallel.Tie as tie
 
 holds : {b : Bool} → b ≡ true → T b
 holds e = subst T (sym e) tt
@@ -25,11 +25,14 @@ returns c =
     let second = third .before .before in
     let first = second .before .before in
     let s = first .before in
+    let g = s .args in
     let a = first .moderate .ensures (second .before .if1 .taken) in
     let b = second .moderate2 .ensures (third .before .if2 .taken) in
-    let g = third .moderate3 .ensures (c .before .if3 .taken) in
-    sym
-    (not-parallel (s .args .a) (s .args .b) (record { fit = holds (s .good .0 .1); least = a .0; most = a .1 }) (record { fit = holds (s .good .1 .0 .1); least = b .0; most = b .1 }) (s .args .angular) (s .args .length) (record { fit = holds (s .good .1 .1 .1 .0 .1); least = g .0; most = g .1 }) (holds (c .if4 .taken)))
+    let e = third .moderate3 .ensures (c .before .if3 .taken) in
+    let ma : Moderate (g .a) = record { fit = holds (s .good .0 .1); least = a .0; most = a .1 } in
+    let mb : Moderate (g .b) = record { fit = holds (s .good .1 .0 .1); least = b .0; most = b .1 } in
+    let me : Moderate (g .angular) = record { fit = holds (s .good .1 .1 .1 .0 .1); least = e .0; most = e .1 } in
+    sym (not-parallel ma mb me (g .length) (holds (c .if4 .taken)))
 
 sqrt-requires : tie.Need-sqrt-requires
 sqrt-requires c κs = search needs
