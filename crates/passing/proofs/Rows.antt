@@ -10,6 +10,7 @@ use lib.Ieee.Scale.{finite}
 use lib.ListN.{length, getD, length-append}
 use lib.Seq.{getD-append-add}
 use Rattle.number.specs.Operators.{_≤?_}
+use Rattle.groups.specs.Groups.{width}
 use Rattle.groups.specs.declared.row.Row.{Row}
 use Rattle.groups.specs.Row.{numbersOf, rowAt, pointAt}
 use Rattle.geometry.specs.declared.point.Point3D.{Point3D}
@@ -31,19 +32,19 @@ use Rattle.passing.proofs.Lines.{Round, not-round, round-forward, round
 
 -- ---- row i is the i-th point's
 
-seven-past : (r : Row) (t : List Float) (i k m : ℕ) → m ≡ 7 + (7 * i + k) → getD (numbersOf r ++ t) m nan ≡ getD t (7 * i + k) nan
-seven-past r t i k m e = ap (λ (j : ℕ). getD (numbersOf r ++ t) j nan) e ∙ getD-append-add (numbersOf r) t (7 * i + k) nan
+seven-past : (r : Row) (t : List Float) (i k m : ℕ) → m ≡ width + (width * i + k) → getD (numbersOf r ++ t) m nan ≡ getD t (width * i + k) nan
+seven-past r t i k m e = ap (λ (j : ℕ). getD (numbersOf r ++ t) j nan) e ∙ getD-append-add (numbersOf r) t (width * i + k) nan
 
 row-past : (r : Row) (t : List Float) (i : ℕ) → rowAt (numbersOf r ++ t) (suc i) ≡ rowAt t i
 row-past r t i =
-    let e0 : getD (numbersOf r ++ t) (7 * suc i) nan ≡ getD t (7 * i) nan =
-    seven-past r t i 0 (7 * suc i) (omega arith) ∙ ap (λ (j : ℕ). getD t j nan) (let e : 7 * i + 0 ≡ 7 * i = omega arith in e) in
-    let e1 = seven-past r t i 1 (7 * suc i + 1) (omega arith) in
-    let e2 = seven-past r t i 2 (7 * suc i + 2) (omega arith) in
-    let e3 = seven-past r t i 3 (7 * suc i + 3) (omega arith) in
-    let e4 = seven-past r t i 4 (7 * suc i + 4) (omega arith) in
-    let e5 = seven-past r t i 5 (7 * suc i + 5) (omega arith) in
-    let e6 = seven-past r t i 6 (7 * suc i + 6) (omega arith) in
+    let e0 : getD (numbersOf r ++ t) (width * suc i) nan ≡ getD t (width * i) nan =
+    seven-past r t i 0 (width * suc i) (omega arith) ∙ ap (λ (j : ℕ). getD t j nan) (let e : width * i + 0 ≡ width * i = omega arith in e) in
+    let e1 = seven-past r t i 1 (width * suc i + 1) (omega arith) in
+    let e2 = seven-past r t i 2 (width * suc i + 2) (omega arith) in
+    let e3 = seven-past r t i 3 (width * suc i + 3) (omega arith) in
+    let e4 = seven-past r t i 4 (width * suc i + 4) (omega arith) in
+    let e5 = seven-past r t i 5 (width * suc i + 5) (omega arith) in
+    let e6 = seven-past r t i 6 (width * suc i + 6) (omega arith) in
     λ k. record { x = e0 k; y = e1 k; z = e2 k; u1 = e3 k; v1 = e4 k; u2 = e5 k; v2 = e6 k }
 
 pub row-of : (a : Patch) (points : List Parameters) (rest : List Float) (d : Parameters) (i : ℕ) → i < length points → rowAt (rowsOf a points ++ rest) i ≡ ownRow a (getD points i d)

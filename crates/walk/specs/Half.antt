@@ -1,11 +1,14 @@
 -- One half of the walk. Definitions only.
 use mathlib.Core.Bool.{Bool, true, false}
 use mathlib.Core.List.{List, [], _∷_, reverse}
-use Prim.Native.Nat.{ℕ}
+use mathlib.Core.Path.{_≡_}
+use Prim.Native.Nat.{ℕ, _*_, _≤_}
 use lib.Ieee.{Float}
-use lib.ListN.{length}
+use lib.ListN.{length, take}
 use Rattle.loops.specs.Loop.{pick, Flow, on, out, searched}
 use Rattle.number.specs.Operators.{bits}
+use Rattle.groups.specs.Groups.{width}
+use Rattle.groups.specs.declared.row.Row.{Row}
 use Rattle.geometry.specs.declared.point.Point3D.{Point3D}
 use Rattle.geometry.specs.declared.vector.Vector3D.{Vector3D}
 use Rattle.geometry.specs.declared.tolerance.Tolerance.{Tolerance}
@@ -13,6 +16,7 @@ use Rattle.geometry.specs.Vector.{scaleOf}
 use Rattle.patch.specs.declared.patch.Patch.{Patch}
 use Rattle.patch.specs.declared.patch.Parameters.{Parameters}
 use Rattle.patch.specs.Located.{pointA}
+use Rattle.walk.specs.Lent.{rowsOf}
 use Rattle.step.specs.declared.attempt.Walker.{Walker}
 use Rattle.step.specs.Closing.{firstStride}
 use Rattle.step.specs.Step.{stepOf}
@@ -66,3 +70,10 @@ halfOf a b tol dir x t n = halfFrom a b tol dir x n 0 (record { w = firstWalker 
 -- the points in the order walked
 abbrev pub inOrder : Half → List Parameters
 inOrder half = reverse (half .points)
+
+-- a half of at most n points as it is written: its count, how it ended, and its points at the front of a list, in the order walked
+pub record Written (row : Parameters → Row) (n : ℕ) (half : Half) (l : List Float) (count : ℕ) (closed : Bool) : Type 0 where
+  pub size : count ≡ length (half .points)
+  pub ends : closed ≡ half .closed
+  pub few : count ≤ n
+  pub rows : take (width * count) l ≡ rowsOf row (inOrder half)

@@ -32,7 +32,7 @@ rowFor q x = record { x = q .x; y = q .y; z = q .z; u1 = x .u1; v1 = x .v1; u2 =
 abbrev pub ownRow : Patch → Parameters → Row
 ownRow a x = rowFor (pointA a x) x
 
--- the numbers of points one behind the other
-unfoldable pub rowsOf : Patch → List Parameters → List Float
-rowsOf a [] = []
-rowsOf a (x ∷ xs) = numbersOf (ownRow a x) ++ rowsOf a xs
+-- the numbers of points one behind the other, `row` giving those of one
+unfoldable pub rowsOf : (Parameters → Row) → List Parameters → List Float
+rowsOf row [] = []
+rowsOf row (x ∷ xs) = numbersOf (row x) ++ rowsOf row xs

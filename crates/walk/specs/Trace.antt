@@ -1,31 +1,32 @@
 -- The call: its refusals, its answer and the lent buffer after it. Definitions only.
 use mathlib.Core.Bool.{Bool, _&&_}
-use mathlib.Core.List.{List, _++_}
+use mathlib.Core.List.{List, [], _∷_, _++_}
 use Prim.Native.Nat.{ℕ, _+_, _*_, _-_}
 use lib.Dec.{leb}
 use lib.Ieee.{Float}
 use lib.Ieee.Scale.{finite}
 use lib.ListN.{length, take, drop, replicate}
 use Rattle.loops.specs.Loop.{pick}
-use Rattle.groups.specs.Groups.{width, holdsOf}
+use Rattle.groups.specs.Groups.{width, leastPoints, holdsOf}
+use Rattle.groups.specs.declared.row.Row.{Row}
 use Rattle.number.specs.Helpers.{positiveZero}
 use Rattle.refusal.specs.declared.Refusal.{Refusal}
 use Rattle.refusal.specs.declared.Refusal.the-variants as refusal
 use Rattle.refusal.specs.Refusal.{numberOf}
 use Rattle.geometry.specs.declared.tolerance.Tolerance.{Tolerance}
-use Rattle.geometry.specs.Tolerance.{toleranceFit}
 use Rattle.patch.specs.declared.patch.Patch.{Patch}
 use Rattle.patch.specs.declared.patch.Parameters.{Parameters}
 use Rattle.refusal.specs.declared.Verdict.{Verdict}
 use Rattle.refusal.specs.declared.Verdict.the-variants as verdict
-use Rattle.patch.specs.Patch.{fitnessOf}
+use Rattle.refusal.specs.Verdict.{asked, firstRefusal}
+use Rattle.patch.specs.Pair.{pairFitness}
 use Rattle.meeting.specs.declared.newton.Met.{Met}
 use Rattle.meeting.specs.declared.newton.Met.the-variants as met
 use Rattle.tangent.specs.declared.Direction.{Direction}
 use Rattle.tangent.specs.declared.Direction.the-variants as direction
 use Rattle.tangent.specs.Tangent.{tangentOf}
 use Rattle.meeting.specs.Newton.{meetOf}
-use Rattle.walk.specs.Lent.{rowsOf}
+use Rattle.walk.specs.Lent.{ownRow, rowsOf}
 use Rattle.walk.specs.Line.{lineOf}
 use Rattle.walk.specs.Line as line
 use Rattle.walk.specs.declared.answer.Traced.{Traced}
@@ -35,6 +36,9 @@ use Rattle.walk.specs.declared.answer.Traced.the-variants.{Line, Refused
 pub record Outcome : Type 0 where
   pub answer : Traced
   pub buffer : List Float
+
+abbrev pub outcome : Traced → List Float → Outcome
+outcome r l = record { answer = r; buffer = l }
 
 -- "A refusal is its number alone"; 0 where there is none
 abbrev pub refusalOf : Traced → ℕ
@@ -62,27 +66,27 @@ closingOf (Refused r) = 0
 unfoldable pub guessFinite : Parameters → Bool
 guessFinite x = finite (x .u1) && (finite (x .v1) && (finite (x .u2) && finite (x .v2)))
 
--- 5, 6, then 7: "step cap n outside 2 to 2000", then 8: "fewer than 7(2n+1) numbers lent"
-unfoldable pub limitsOf : Tolerance → Parameters → ℕ → List Float → Verdict
-limitsOf tol guess n l =
-    pick (toleranceFit tol)
-    (pick (guessFinite guess)
-    (pick (leb 2 n)
-    (pick (leb n 2000)
-    (pick (holdsOf width l (2 * n + 1)) verdict.Passed (verdict.Refused refusal.Lent))
-    (verdict.Refused refusal.StepCap))
-    (verdict.Refused refusal.StepCap))
-    (verdict.Refused refusal.Parameter))
-    (verdict.Refused refusal.Tolerance)
+-- 7: "step cap n outside 2 to 2000"
+abbrev pub leastSteps : ℕ
+leastSteps = 2
 
--- a surface's refusal, or what is tested next
-abbrev pub afterPatch : Verdict → Verdict → Verdict
-afterPatch verdict.Passed next = next
-afterPatch (verdict.Refused r) next = verdict.Refused r
+abbrev pub mostSteps : ℕ
+mostSteps = 2000
 
--- "Trace: 1 to 4 for A, the same for B, then 5 to 11": those before 9
+unfoldable pub capFits : ℕ → Bool
+capFits n = leb leastSteps n && leb n mostSteps
+
+-- "Trace: 1 to 4 for A, the same for B, then 5 to 11": those before 9. 8: "fewer than 7(2n+1) numbers lent"
+abbrev pub callTests : Patch → Patch → Tolerance → Parameters → ℕ → List Float → List Verdict
+callTests a b tol guess n l =
+    pairFitness a b tol
+    ∷ asked (guessFinite guess) refusal.Parameter
+    ∷ asked (capFits n) refusal.StepCap
+    ∷ asked (holdsOf width l (2 * n + 1)) refusal.Lent
+    ∷ []
+
 unfoldable pub callFitness : Patch → Patch → Tolerance → Parameters → ℕ → List Float → Verdict
-callFitness a b tol guess n l = afterPatch (fitnessOf a) (afterPatch (fitnessOf b) (limitsOf tol guess n l))
+callFitness a b tol guess n l = firstRefusal (callTests a b tol guess n l)
 
 -- ---- the walk, in the first 7(2n+1) numbers
 
@@ -92,25 +96,25 @@ room n = width * (2 * n + 1)
 
 -- "Refusals 9, 10 and 11 leave its first 7(2n+1) numbers positive zero."
 abbrev pub refusedWalk : Refusal → ℕ → Outcome
-refusedWalk r n = record { answer = Refused r; buffer = replicate (room n) positiveZero }
+refusedWalk r n = outcome (Refused r) (replicate (room n) positiveZero)
 
 -- 11: "fewer than 4 points"; "Success puts seven numbers a point first"; "zeros follow up to 7(2n+1)": here up to `size`
-abbrev pub outcomeOf : ℕ → ℕ → ℕ → List Float → ℕ → Outcome
-outcomeOf count start closing rows size =
-    pick (leb 4 count) (record { answer = Line count start closing; buffer = rows ++ replicate (size - width * count) positiveZero })
-    (record { answer = Refused refusal.TooShort; buffer = replicate size positiveZero })
+abbrev pub lineOrRefused : ℕ → ℕ → ℕ → List Float → ℕ → Outcome
+lineOrRefused count start closing rows size =
+    pick (leb leastPoints count) (outcome (Line count start closing) (rows ++ replicate (size - width * count) positiveZero))
+    (outcome (Refused refusal.TooShort) (replicate size positiveZero))
 
 -- of a list that begins with the line's points
 unfoldable pub finishedOf : ℕ → ℕ → ℕ → List Float → Outcome
-finishedOf count start closing l = outcomeOf count start closing (take (width * count) l) (length l)
+finishedOf count start closing l = lineOrRefused count start closing (take (width * count) l) (length l)
 
 -- of a line's points
-unfoldable pub settled : Patch → ℕ → line.Line → Outcome
-settled a n found = outcomeOf (length (found .points)) (found .start) (found .closing) (rowsOf a (found .points)) (room n)
+unfoldable pub settled : (Parameters → Row) → ℕ → line.Line → Outcome
+settled row n found = lineOrRefused (length (found .points)) (found .start) (found .closing) (rowsOf row (found .points)) (room n)
 
 -- 10: "no direction at the meeting"
 abbrev pub afterDirection : Patch → Patch → Tolerance → ℕ → Parameters → Direction → Outcome
-afterDirection a b tol n x (direction.Along t) = settled a n (lineOf a b tol x t n)
+afterDirection a b tol n x (direction.Along t) = settled (ownRow a) n (lineOf a b tol x t n)
 afterDirection a b tol n x direction.Missing = refusedWalk refusal.NoDirection n
 
 -- 9: "the guess leads to no meeting"; "a caller goes on only with it, else 9"
@@ -126,8 +130,8 @@ walkOf a b tol guess n = afterSeed a b tol n (meetOf a b guess tol)
 
 -- a refusal before 9, or what the walk answers and leaves
 abbrev pub afterCall : Patch → Patch → Tolerance → Parameters → ℕ → List Float → Verdict → Outcome
-afterCall a b tol guess n l (verdict.Refused r) = record { answer = Refused r; buffer = l }
-afterCall a b tol guess n l verdict.Passed = record { answer = walkOf a b tol guess n .answer; buffer = walkOf a b tol guess n .buffer ++ drop (room n) l }
+afterCall a b tol guess n l (verdict.Refused r) = outcome (Refused r) l
+afterCall a b tol guess n l verdict.Passed = outcome (walkOf a b tol guess n .answer) (walkOf a b tol guess n .buffer ++ drop (room n) l)
 
 -- the call: its answer, and the whole buffer after it
 unfoldable pub traceOf : Patch → Patch → Tolerance → Parameters → ℕ → List Float → Outcome

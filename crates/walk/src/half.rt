@@ -12,12 +12,13 @@ use step::first_stride;
 use step::step::step;
 ghost use mathlib.Core.Path.{_≡_};
 ghost use Prim.Native.Nat.{_*_, _-_, _≤_};
-ghost use lib.ListN.{length, take};
+ghost use lib.ListN.{length};
 ghost use Rattle.loops.specs.Loop.{pick};
 ghost use Rattle.groups.specs.Groups.{width};
 ghost use Rattle.patch.specs.Located.{pointA};
-ghost use Rattle.walk.specs.Lent.{rowsOf};
-ghost use Rattle.walk.specs.Half.{firstWalker, halfOf, inOrder};
+ghost use Rattle.walk.specs.Lent.{ownRow};
+ghost use Rattle.walk.specs.Half.{firstWalker, halfOf, Written};
+ghost use Rattle.walk.specs.Trace.{mostSteps};
 
 // How many points a half holds, and whether it ended on the start.
 pub struct Reached {
@@ -58,8 +59,8 @@ pub(crate) fn half(
     t: Vector3D,
     n: usize,
 ) -> Reached
-    requires { ⌜ (p ≡ pointA a x) × ((n ≤ 2000) × (width * n ≤ length (now out))) ⌝ }
-    ensures { λ r. ⌜ (r .count ≡ length (halfOf a b tol dir x t n .points)) × ((r .closed ≡ halfOf a b tol dir x t n .closed) × ((r .count ≤ n) × (take (width * r .count) (now (out .exit)) ≡ rowsOf a (inOrder (halfOf a b tol dir x t n))))) ⌝ }
+    requires { ⌜ (p ≡ pointA a x) × ((n ≤ mostSteps) × (width * n ≤ length (now out))) ⌝ }
+    ensures { λ r. ⌜ Written (ownRow a) n (halfOf a b tol dir x t n) (now (out .exit)) (r .count) (r .closed) ⌝ }
 {
     let mut w = first_walker(x, p, t, dir);
     let mut h = first_stride(tol.confusion);

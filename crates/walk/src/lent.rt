@@ -7,7 +7,7 @@ ghost use mathlib.Core.Path.{_≡_};
 ghost use mathlib.Core.List.{_++_};
 ghost use Prim.Native.Nat.{_+_, _*_, _-_, _≤_};
 ghost use lib.ListN.{length, take, replicate};
-ghost use Rattle.groups.specs.Groups.{width};
+ghost use Rattle.groups.specs.Groups.{width, mostPoints};
 ghost use Rattle.number.specs.Helpers.{positiveZero};
 ghost use Rattle.walk.specs.Lent.{placed, reversedOf, rowFor};
 
@@ -42,7 +42,7 @@ pub(crate) fn row_for(q: Point3D, x: Parameters) -> Row
 
 // The k points of the slice turned round in place.
 pub(crate) fn reverse(points: &mut [f64], k: usize)
-    requires { ⌜ (length (now points) ≡ width * k) × (k ≤ 4001) ⌝ }
+    requires { ⌜ (length (now points) ≡ width * k) × (k ≤ mostPoints) ⌝ }
     ensures { λ _. ⌜ now (points .exit) ≡ reversedOf k (now (points .entry)) ⌝ }
 {
     for i in 0..k / 2 {

@@ -9,6 +9,7 @@ use crate::lent::row_for;
 use geometry::Point3D;
 use geometry::Tolerance;
 use geometry::Vector3D;
+use groups::LEAST_POINTS;
 use groups::WIDTH;
 use patch::Parameters;
 use patch::Patch;
@@ -17,15 +18,15 @@ ghost use mathlib.Core.Path.{_≡_};
 ghost use Prim.Native.Nat.{_+_, _*_, _≤_};
 ghost use lib.ListN.{length};
 ghost use Rattle.loops.specs.Loop.{pick};
-ghost use Rattle.groups.specs.Groups.{width};
+ghost use Rattle.groups.specs.Groups.{width, mostPoints};
 ghost use Rattle.patch.specs.Located.{pointA};
-ghost use Rattle.walk.specs.Lent.{joinedOf};
+ghost use Rattle.walk.specs.Lent.{joinedOf, ownRow};
 ghost use Rattle.walk.specs.Line.{lineOf};
-ghost use Rattle.walk.specs.Trace.{room, finishedOf, settled};
+ghost use Rattle.walk.specs.Trace.{outcome, mostSteps, room, finishedOf, settled};
 
 // The start and `forward` points behind it, then `backward` points: those turned round come first.
 fn join(points: &mut [f64], forward: usize, backward: usize)
-    requires { ⌜ (width * (1 + forward + backward) ≤ length (now points)) × ((forward ≤ 2000) × (backward ≤ 2000)) ⌝ }
+    requires { ⌜ (width * (1 + forward + backward) ≤ length (now points)) × ((forward ≤ mostSteps) × (backward ≤ mostSteps)) ⌝ }
     ensures { λ _. ⌜ now (points .exit) ≡ joinedOf forward backward (now (points .entry)) ⌝ }
 {
     let count = 1 + forward + backward;
@@ -37,10 +38,10 @@ fn join(points: &mut [f64], forward: usize, backward: usize)
 
 // A line of fewer than 4 points is refused and nothing of it is left; otherwise zeros follow it.
 fn finish(points: &mut [f64], count: usize, start: usize, closing: usize) -> Traced
-    requires { ⌜ (width * count ≤ length (now points)) × (count ≤ 4001) ⌝ }
-    ensures { λ r. ⌜ (r ≡ finishedOf count start closing (now (points .entry)) .answer) × (now (points .exit) ≡ finishedOf count start closing (now (points .entry)) .buffer) ⌝ }
+    requires { ⌜ (width * count ≤ length (now points)) × (count ≤ mostPoints) ⌝ }
+    ensures { λ r. ⌜ outcome r (now (points .exit)) ≡ finishedOf count start closing (now (points .entry)) ⌝ }
 {
-    if count < 4 {
+    if count < LEAST_POINTS {
         clear(&mut *points, 0);
         return Traced::Refused(Refusal::TooShort);
     }
@@ -70,8 +71,8 @@ pub(crate) fn line(
     t: Vector3D,
     n: usize,
 ) -> Traced
-    requires { ⌜ (p ≡ pointA a x) × ((n ≤ 2000) × (length (now points) ≡ room n)) ⌝ }
-    ensures { λ r. ⌜ (r ≡ settled a n (lineOf a b tol x t n) .answer) × (now (points .exit) ≡ settled a n (lineOf a b tol x t n) .buffer) ⌝ }
+    requires { ⌜ (p ≡ pointA a x) × ((n ≤ mostSteps) × (length (now points) ≡ room n)) ⌝ }
+    ensures { λ r. ⌜ outcome r (now (points .exit)) ≡ settled (ownRow a) n (lineOf a b tol x t n) ⌝ }
 {
     put(&mut *points, 0, row_for(p, x));
     let forward = half(&mut points[WIDTH..], a, b, tol, 1.0, x, p, t, n);

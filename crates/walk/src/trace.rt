@@ -8,6 +8,7 @@ use meeting::Met;
 use meeting::newton::meet;
 use patch::Parameters;
 use patch::Patch;
+use patch::pair_fitness;
 use refusal::Refusal;
 use refusal::Verdict;
 use tangent::Direction;
@@ -15,52 +16,26 @@ use tangent::tangent;
 ghost use mathlib.Core.Path.{_≡_};
 ghost use Prim.Native.Nat.{_≤_};
 ghost use lib.ListN.{length};
-ghost use Rattle.walk.specs.Trace.{guessFinite, limitsOf, callFitness, room, walkOf, traceOf};
+ghost use Rattle.walk.specs.Trace.{outcome, guessFinite, mostSteps, capFits, callFitness, room, walkOf, traceOf};
 
 // The least and the greatest step cap.
-const LEAST_CAP: usize = 2;
+const LEAST_STEPS: usize = 2;
 
-const GREATEST_CAP: usize = 2000;
+const MOST_STEPS: usize = 2000;
 
 // What refusal 6 lets through.
 fn guess_finite(x: Parameters) -> bool
     ensures { λ r. ⌜ r ≡ guessFinite x ⌝ }
 {
-    if number::is_finite(x.u1) {
-        if number::is_finite(x.v1) {
-            if number::is_finite(x.u2) {
-                number::is_finite(x.v2)
-            } else {
-                false
-            }
-        } else {
-            false
-        }
-    } else {
-        false
-    }
+    number::is_finite(x.u1)
+        && (number::is_finite(x.v1) && (number::is_finite(x.u2) && number::is_finite(x.v2)))
 }
 
-// Refusals 5 to 8.
-fn limits(tol: Tolerance, guess: Parameters, cap: usize, buffer: &[f64]) -> Verdict
-    ensures { λ r. ⌜ r ≡ limitsOf tol guess cap (now (buffer .entry)) ⌝ }
+// What refusal 7 lets through.
+fn cap_fits(cap: usize) -> bool
+    ensures { λ r. ⌜ r ≡ capFits cap ⌝ }
 {
-    if !tol.is_fit() {
-        return Verdict::Refused(Refusal::Tolerance);
-    }
-    if !guess_finite(guess) {
-        return Verdict::Refused(Refusal::Parameter);
-    }
-    if cap < LEAST_CAP {
-        return Verdict::Refused(Refusal::StepCap);
-    }
-    if GREATEST_CAP < cap {
-        return Verdict::Refused(Refusal::StepCap);
-    }
-    if !groups::holds(buffer, 2 * cap + 1) {
-        return Verdict::Refused(Refusal::Lent);
-    }
-    Verdict::Passed
+    LEAST_STEPS <= cap && cap <= MOST_STEPS
 }
 
 // Refusals 1 to 4 of A, the same of B, then 5 to 8.
@@ -74,17 +49,20 @@ fn call_fitness(
 ) -> Verdict
     ensures { λ r. ⌜ r ≡ callFitness a b tol guess cap (now (buffer .entry)) ⌝ }
 {
-    let first = a.fitness();
-    match first {
-        Verdict::Refused(of_a) => Verdict::Refused(of_a),
-        Verdict::Passed => {
-            let second = b.fitness();
-            match second {
-                Verdict::Refused(of_b) => Verdict::Refused(of_b),
-                Verdict::Passed => limits(tol, guess, cap, buffer),
-            }
-        }
+    let pair = pair_fitness(a, b, tol);
+    let Verdict::Passed = pair else {
+        return pair;
+    };
+    if !guess_finite(guess) {
+        return Verdict::Refused(Refusal::Parameter);
     }
+    if !cap_fits(cap) {
+        return Verdict::Refused(Refusal::StepCap);
+    }
+    if !groups::holds(buffer, 2 * cap + 1) {
+        return Verdict::Refused(Refusal::Lent);
+    }
+    Verdict::Passed
 }
 
 // The walk from a guess: 9 where it leads to no meeting, 10 where the meeting has no direction; zeros are left with both.
@@ -96,8 +74,8 @@ fn walk_from(
     guess: Parameters,
     n: usize,
 ) -> Traced
-    requires { ⌜ (n ≤ 2000) × (length (now points) ≡ room n) ⌝ }
-    ensures { λ r. ⌜ (r ≡ walkOf a b tol guess n .answer) × (now (points .exit) ≡ walkOf a b tol guess n .buffer) ⌝ }
+    requires { ⌜ (n ≤ mostSteps) × (length (now points) ≡ room n) ⌝ }
+    ensures { λ r. ⌜ outcome r (now (points .exit)) ≡ walkOf a b tol guess n ⌝ }
 {
     let Met::At(seed) = meet(a, b, guess, tol) else {
         clear(&mut *points, 0);
@@ -122,7 +100,7 @@ pub fn trace(
     cap: usize,
     buffer: &mut [f64],
 ) -> Traced
-    ensures { λ r. ⌜ (r ≡ traceOf a b tol guess cap (now (buffer .entry)) .answer) × (now (buffer .exit) ≡ traceOf a b tol guess cap (now (buffer .entry)) .buffer) ⌝ }
+    ensures { λ r. ⌜ outcome r (now (buffer .exit)) ≡ traceOf a b tol guess cap (now (buffer .entry)) ⌝ }
 {
     let fitness = call_fitness(a, b, tol, guess, cap, &*buffer);
     match fitness {

@@ -1,13 +1,8 @@
 -- The invariant is `Going`: the buffer holds the points so far, in the order walked.
-use mathlib.Core.Path.{refl, ap, _∙_}
-use Prim.Native.Nat.{_-_, _*_}
 use native.Mathlib.Omega.{arith}
+use Prim.Native.Nat.{_-_}
 use borrow.Author.Needs.{needs}
-use denote.Ref.{now}
-use Rattle.groups.specs.declared.row.Row.{Row}
-use Rattle.walk.specs.Lent.{placed}
-use Rattle.walk.specs.Half.{halfOf}
-use Rattle.walk.proofs.Halves.{Going, fits, fits-left, few-left, few-held, whole-is, going-start, going-on, going-closed, going-edge, going-ended, going-spent, held}
+use Rattle.walk.proofs.Halves.{Going, begun-is, going-start, few-held, fits, few-left, going-on, held, going-ended, going-edge, going-closed, going-spent}
 use Rattle.walk.proofs.half.half.Statement.{statement}
 use Rattle.walk.proofs.half.half.Tie as tie
 
@@ -25,8 +20,8 @@ first-stride-requires c κs = search needs
 
 loop-holds : tie.Need-loop-holds Inv-loop μ-loop
 loop-holds c =
-    let g = c .before .before .before .args in
-    going-start (g .a) (g .b) (g .tol) (g .dir) (g .x) (g .p) (g .n) (c .before .first-walker .result) (c .first-stride .result) (now (g .out))
+    let s = c .before .before .before in
+    going-start (s .pre .0) (s .pre .1 .1)
 
 step-requires : tie.Need-step-requires Inv-loop μ-loop
 step-requires c κs = search needs
@@ -42,20 +37,17 @@ row-for-requires c κs = search needs
 
 put-requires : tie.Need-put-requires Inv-loop μ-loop
 put-requires c κs =
-    let q = c .before .before .before .before .before .before .before in
-    let st = q .before .before .before .before in
-    let g = st .args in
-    let v = q .loop .inv in
-    fits (g .a) (g .b) (g .tol) (g .dir) (g .x) (g .p) (g .n) (q .before .before .first-walker .result) (q .before .first-stride .result) (st .pre .0) (now (g .out)) (q .loop .out) (q .loop .w) (q .loop .h) (q .loop .count) (q .loop .counter) v (st .pre .1 .1) _ refl (omega (arith, c .before .before .before .before .before .before .loop-test .taken)) (c .before .before .before .before .before .step .ensures)
+    let t = c .before .before .before .before .before .before in
+    let v = t .before .loop .inv in
+    let h = t .loop-test .taken in
+    fits v h (few-held v h)
 
 add-count : tie.Need-add-count Inv-loop μ-loop
 add-count c =
-    let q = c .before .before .before .before .before .before .before .before .before .before in
-    let st = q .before .before .before .before in
-    let g = st .args in
-    let v = q .loop .inv in
-    let f = few-held (g .a) (g .b) (g .tol) (g .dir) (g .x) (g .p) (g .n) (q .before .before .first-walker .result) (q .before .first-stride .result) (st .pre .0) (now (g .out)) (q .loop .out) (q .loop .w) (q .loop .h) (q .loop .count) (q .loop .counter) v (st .pre .1 .1) _ refl (omega (arith, c .before .before .before .before .before .before .before .before .before .loop-test .taken)) (c .before .before .before .before .before .before .before .before .step .ensures) in
-    let k = st .pre .1 .0 in
+    let t = c .before .before .before .before .before .before .before .before .before in
+    let q = t .before in
+    let f = few-held (q .loop .inv) (t .loop-test .taken) in
+    let k = q .before .before .before .before .pre .1 .0 in
     search needs
 
 enum-known-stepped-2 : tie.Need-enum-known-stepped-2 Inv-loop μ-loop
@@ -63,20 +55,16 @@ enum-known-stepped-2 c = search needs
 
 left-of-requires : tie.Need-left-of-requires Inv-loop μ-loop
 left-of-requires c κs =
-    let q = c .before .before .before .before .before in
-    let st = q .before .before .before .before in
-    let g = st .args in
-    let v = q .loop .inv in
-    held (g .a) (g .b) (g .tol) (g .dir) (g .x) (g .p) (g .n) (q .before .before .first-walker .result) (q .before .first-stride .result) (st .pre .0) (now (g .out)) (q .loop .out) (q .loop .w) (q .loop .h) (q .loop .count) (q .loop .counter) v (st .pre .1 .1) _ refl (omega (arith, c .before .before .before .before .loop-test .taken)) (c .before .before .before .step .ensures) _ (c .before .stepped2 .given .1)
+    let t = c .before .before .before .before in
+    held (t .before .loop .inv) (t .loop-test .taken) (c .before .before .before .step .ensures) (c .before .stepped2 .given .1)
 
 mul-put-2 : tie.Need-mul-put-2 Inv-loop μ-loop
 mul-put-2 c =
-    let q = c .before .before .before .before .before .before .before in
-    let st = q .before .before .before .before in
-    let g = st .args in
-    let v = q .loop .inv in
-    let f = few-left (g .a) (g .b) (g .tol) (g .dir) (g .x) (g .p) (g .n) (q .before .before .first-walker .result) (q .before .first-stride .result) (st .pre .0) (now (g .out)) (q .loop .out) (q .loop .w) (q .loop .h) (q .loop .count) (q .loop .counter) v (st .pre .1 .1) _ refl (omega (arith, c .before .before .before .before .before .before .loop-test .taken)) (c .before .before .before .before .before .step .ensures) (c .before .before .before .stepped2 .given .0 .0) (c .before .left-of .ensures) in
-    let k = st .pre .1 .0 in
+    let m = c .before .before .before in
+    let t = m .before .before .before in
+    let q = t .before in
+    let f = few-left (q .loop .inv) (t .loop-test .taken) (m .stepped2 .given .0 .0) (c .before .left-of .ensures) in
+    let k = q .before .before .before .before .pre .1 .0 in
     search needs
 
 row-for-requires-2 : tie.Need-row-for-requires-2 Inv-loop μ-loop
@@ -84,20 +72,20 @@ row-for-requires-2 c κs = search needs
 
 put-requires-2 : tie.Need-put-requires-2 Inv-loop μ-loop
 put-requires-2 c κs =
-    let q = c .before .before .before .before .before .before .before .before in
-    let st = q .before .before .before .before in
-    let g = st .args in
-    let v = q .loop .inv in
-    fits-left (g .a) (g .b) (g .tol) (g .dir) (g .x) (g .p) (g .n) (q .before .before .first-walker .result) (q .before .first-stride .result) (st .pre .0) (now (g .out)) (q .loop .out) (q .loop .w) (q .loop .h) (q .loop .count) (q .loop .counter) v (st .pre .1 .1) _ refl (omega (arith, c .before .before .before .before .before .before .before .loop-test .taken)) (c .before .before .before .before .before .before .step .ensures) (c .before .before .before .before .stepped2 .given .0 .0) (c .before .before .left-of .ensures)
+    let m = c .before .before .before .before in
+    let t = m .before .before .before in
+    let v = t .before .loop .inv in
+    let h = t .loop-test .taken in
+    fits v h (few-left v h (m .stepped2 .given .0 .0) (c .before .before .left-of .ensures))
 
 add-t30 : tie.Need-add-t30 Inv-loop μ-loop
 add-t30 c =
-    let q = c .before .before .before .before .before .before .before .before .before .before .before in
-    let st = q .before .before .before .before in
-    let g = st .args in
-    let v = q .loop .inv in
-    let f = few-left (g .a) (g .b) (g .tol) (g .dir) (g .x) (g .p) (g .n) (q .before .before .first-walker .result) (q .before .first-stride .result) (st .pre .0) (now (g .out)) (q .loop .out) (q .loop .w) (q .loop .h) (q .loop .count) (q .loop .counter) v (st .pre .1 .1) _ refl (omega (arith, c .before .before .before .before .before .before .before .before .before .before .loop-test .taken)) (c .before .before .before .before .before .before .before .before .before .step .ensures) (c .before .before .before .before .before .before .before .stepped2 .given .0 .0) (c .before .before .before .before .before .left-of .ensures) in
-    let k = st .pre .1 .0 in
+    let l = c .before .before .before .before .before in
+    let m = l .before .before in
+    let t = m .before .before .before in
+    let q = t .before in
+    let f = few-left (q .loop .inv) (t .loop-test .taken) (m .stepped2 .given .0 .0) (l .left-of .ensures) in
+    let k = q .before .before .before .before .pre .1 .0 in
     search needs
 
 same-length : tie.Need-same-length Inv-loop μ-loop
@@ -105,11 +93,14 @@ same-length c = search needs
 
 returns : tie.Need-returns Inv-loop μ-loop
 returns c =
-    let q = c .before .before .before .before .before .before .before .before .before .before .before in
-    let st = q .before .before .before .before in
-    let g = st .args in
+    let u = c .before .before in
+    let l = u .before .before .before in
+    let m = l .before .before in
+    let t = m .before .before .before in
+    let q = t .before in
     let v = q .loop .inv in
-    going-closed (g .a) (g .b) (g .tol) (g .dir) (g .x) (g .p) (g .n) (q .before .before .first-walker .result) (q .before .first-stride .result) (st .pre .0) (now (g .out)) (q .loop .out) (q .loop .w) (q .loop .h) (q .loop .count) (q .loop .counter) v (st .pre .1 .1) (halfOf (g .a) (g .b) (g .tol) (g .dir) (g .x) (g .t) (g .n)) (whole-is (g .a) (g .b) (g .tol) (g .dir) (g .x) (g .p) (g .n) (q .before .before .first-walker .result) (q .before .first-stride .result) (g .t) (st .pre .0) (q .before .before .first-walker .ensures) (q .before .first-stride .ensures)) (omega (arith, c .before .before .before .before .before .before .before .before .before .before .loop-test .taken)) (c .before .before .before .before .before .before .before .before .before .step .ensures) _ (c .before .before .before .before .before .before .before .stepped2 .given .1) (c .before .before .before .before .before .left-of .ensures) (c .before .before .put2 .ensures ∙ ap (λ (r : Row). placed (q .loop .out) (7 * c .before .before .before .before .before .left-of .result) r) (c .before .before .before .row-for2 .ensures))
+    going-closed v (t .loop-test .taken) (m .before .before .step .ensures) (begun-is v _ (q .before .before .first-walker .ensures) (q .before .first-stride .ensures))
+    (m .stepped2 .given .1) (l .left-of .ensures) (u .before .row-for2 .ensures) (u .put2 .ensures)
 
 enum-known-stepped-3 : tie.Need-enum-known-stepped-3 Inv-loop μ-loop
 enum-known-stepped-3 c = search needs
@@ -122,20 +113,17 @@ row-for-requires-3 c κs = search needs
 
 put-requires-3 : tie.Need-put-requires-3 Inv-loop μ-loop
 put-requires-3 c κs =
-    let q = c .before .before .before .before .before .before .before in
-    let st = q .before .before .before .before in
-    let g = st .args in
-    let v = q .loop .inv in
-    fits (g .a) (g .b) (g .tol) (g .dir) (g .x) (g .p) (g .n) (q .before .before .first-walker .result) (q .before .first-stride .result) (st .pre .0) (now (g .out)) (q .loop .out) (q .loop .w) (q .loop .h) (q .loop .count) (q .loop .counter) v (st .pre .1 .1) _ refl (omega (arith, c .before .before .before .before .before .before .loop-test .taken)) (c .before .before .before .before .before .step .ensures)
+    let t = c .before .before .before .before .before .before in
+    let v = t .before .loop .inv in
+    let h = t .loop-test .taken in
+    fits v h (few-held v h)
 
 add-t35 : tie.Need-add-t35 Inv-loop μ-loop
 add-t35 c =
-    let q = c .before .before .before .before .before .before .before .before .before .before in
-    let st = q .before .before .before .before in
-    let g = st .args in
-    let v = q .loop .inv in
-    let f = few-held (g .a) (g .b) (g .tol) (g .dir) (g .x) (g .p) (g .n) (q .before .before .first-walker .result) (q .before .first-stride .result) (st .pre .0) (now (g .out)) (q .loop .out) (q .loop .w) (q .loop .h) (q .loop .count) (q .loop .counter) v (st .pre .1 .1) _ refl (omega (arith, c .before .before .before .before .before .before .before .before .before .loop-test .taken)) (c .before .before .before .before .before .before .before .before .step .ensures) in
-    let k = st .pre .1 .0 in
+    let t = c .before .before .before .before .before .before .before .before .before in
+    let q = t .before in
+    let f = few-held (q .loop .inv) (t .loop-test .taken) in
+    let k = q .before .before .before .before .pre .1 .0 in
     search needs
 
 same-length-2 : tie.Need-same-length-2 Inv-loop μ-loop
@@ -143,11 +131,13 @@ same-length-2 c = search needs
 
 returns-2 : tie.Need-returns-2 Inv-loop μ-loop
 returns-2 c =
-    let q = c .before .before .before .before .before .before .before .before .before .before in
-    let st = q .before .before .before .before in
-    let g = st .args in
+    let u = c .before .before in
+    let m = u .before .before .before .before in
+    let t = m .before .before .before in
+    let q = t .before in
     let v = q .loop .inv in
-    going-edge (g .a) (g .b) (g .tol) (g .dir) (g .x) (g .p) (g .n) (q .before .before .first-walker .result) (q .before .first-stride .result) (st .pre .0) (now (g .out)) (q .loop .out) (q .loop .w) (q .loop .h) (q .loop .count) (q .loop .counter) v (st .pre .1 .1) (halfOf (g .a) (g .b) (g .tol) (g .dir) (g .x) (g .t) (g .n)) (whole-is (g .a) (g .b) (g .tol) (g .dir) (g .x) (g .p) (g .n) (q .before .before .first-walker .result) (q .before .first-stride .result) (g .t) (st .pre .0) (q .before .before .first-walker .ensures) (q .before .first-stride .ensures)) (omega (arith, c .before .before .before .before .before .before .before .before .before .loop-test .taken)) (c .before .before .before .before .before .before .before .before .step .ensures) _ _ (c .before .before .before .before .before .before .stepped3 .given .1) (c .before .before .put3 .ensures ∙ ap (λ (r : Row). placed (q .loop .out) (7 * q .loop .count) r) (c .before .before .before .row-for3 .ensures))
+    going-edge v (t .loop-test .taken) (m .before .before .step .ensures) (begun-is v _ (q .before .before .first-walker .ensures) (q .before .first-stride .ensures))
+    (m .stepped3 .given .1) (u .before .row-for3 .ensures) (u .put3 .ensures)
 
 enum-told : tie.Need-enum-told Inv-loop μ-loop
 enum-told c = search needs
@@ -157,20 +147,16 @@ same-length-3 c = search needs
 
 returns-3 : tie.Need-returns-3 Inv-loop μ-loop
 returns-3 c =
-    let q = c .before .before .before .before in
-    let st = q .before .before .before .before in
-    let g = st .args in
+    let t = c .before .before .before in
+    let q = t .before in
     let v = q .loop .inv in
-    going-ended (g .a) (g .b) (g .tol) (g .dir) (g .x) (g .p) (g .n) (q .before .before .first-walker .result) (q .before .first-stride .result) (st .pre .0) (now (g .out)) (q .loop .out) (q .loop .w) (q .loop .h) (q .loop .count) (q .loop .counter) v (st .pre .1 .1) (halfOf (g .a) (g .b) (g .tol) (g .dir) (g .x) (g .t) (g .n)) (whole-is (g .a) (g .b) (g .tol) (g .dir) (g .x) (g .p) (g .n) (q .before .before .first-walker .result) (q .before .first-stride .result) (g .t) (st .pre .0) (q .before .before .first-walker .ensures) (q .before .first-stride .ensures)) (omega (arith, c .before .before .before .loop-test .taken)) (c .before .before .step .ensures) (c .enum-told .given .1)
+    going-ended v (t .loop-test .taken) (c .before .before .step .ensures) (begun-is v _ (q .before .before .first-walker .ensures) (q .before .first-stride .ensures)) (c .enum-told .given .1)
 
 add-counter : tie.Need-add-counter Inv-loop μ-loop
 add-counter c =
-    let q = c .before .before .before .before .before .before .before .before .before .before in
-    let st = q .before .before .before .before in
-    let g = st .args in
-    let v = q .loop .inv in
-    let f = c .before .before .before .before .before .before .before .before .before .loop-test .taken in
-    let k = st .pre .1 .0 in
+    let t = c .before .before .before .before .before .before .before .before .before in
+    let f = t .loop-test .taken in
+    let k = t .before .before .before .before .before .pre .1 .0 in
     search needs
 
 loop-less : tie.Need-loop-less Inv-loop μ-loop
@@ -178,11 +164,10 @@ loop-less c = search needs
 
 loop-again : tie.Need-loop-again Inv-loop μ-loop
 loop-again c =
-    let q = c .before .before .before .before .before .before .before .before .before .before in
-    let st = q .before .before .before .before in
-    let g = st .args in
-    let v = q .loop .inv in
-    going-on (g .a) (g .b) (g .tol) (g .dir) (g .x) (g .p) (g .n) (q .before .before .first-walker .result) (q .before .first-stride .result) (st .pre .0) (now (g .out)) (q .loop .out) (q .loop .w) (q .loop .h) (q .loop .count) (q .loop .counter) v (st .pre .1 .1) _ refl (omega (arith, c .before .before .before .before .before .before .before .before .before .loop-test .taken)) (c .before .before .before .before .before .before .before .before .step .ensures) _ _ (c .before .before .before .before .before .before .stepped .given .1) (c .before .before .put .ensures ∙ ap (λ (r : Row). placed (q .loop .out) (7 * q .loop .count) r) (c .before .before .before .row-for .ensures))
+    let u = c .before .before in
+    let m = u .before .before .before .before in
+    let t = m .before .before .before in
+    going-on (t .before .loop .inv) (t .loop-test .taken) (m .before .before .step .ensures) (m .stepped .given .1) (u .before .row-for .ensures) (u .put .ensures)
 
 same-length-4 : tie.Need-same-length-4 Inv-loop μ-loop
 same-length-4 c = search needs
@@ -190,10 +175,8 @@ same-length-4 c = search needs
 returns-4 : tie.Need-returns-4 Inv-loop μ-loop
 returns-4 c =
     let q = c .before in
-    let st = q .before .before .before .before in
-    let g = st .args in
     let v = q .loop .inv in
-    going-spent (g .a) (g .b) (g .tol) (g .dir) (g .x) (g .p) (g .n) (q .before .before .first-walker .result) (q .before .first-stride .result) (st .pre .0) (now (g .out)) (q .loop .out) (q .loop .w) (q .loop .h) (q .loop .count) (q .loop .counter) v (st .pre .1 .1) (halfOf (g .a) (g .b) (g .tol) (g .dir) (g .x) (g .t) (g .n)) (whole-is (g .a) (g .b) (g .tol) (g .dir) (g .x) (g .p) (g .n) (q .before .before .first-walker .result) (q .before .first-stride .result) (g .t) (st .pre .0) (q .before .before .first-walker .ensures) (q .before .first-stride .ensures)) (omega (arith, c .loop-test .left))
+    going-spent v (c .loop-test .left) (begun-is v _ (q .before .before .first-walker .ensures) (q .before .first-stride .ensures))
 
 pub half-spec : {M : Type 1} → statement M
 half-spec =

@@ -1,23 +1,24 @@
--- I points at each end are turned, those between are as they were.
+-- i points at each end are exchanged, those between are as they were
 use mathlib.Core.Path.{_≡_, refl, _∙_}
 use Prim.Native.Nat.{_-_, _≤_, _<_, _*_, _/_}
 use native.Mathlib.Omega.{arith}
 use borrow.Author.Needs.{needs}
 use denote.Ref.{now}
 use lib.ListN.{length}
+use Rattle.groups.specs.Groups.{width}
 use Rattle.groups.proofs.Rows.{row-there}
-use Rattle.walk.proofs.Reversal.{Turning, turning-start, turning-again, turning-done}
+use Rattle.walk.proofs.Reversal.{Reversing, reversing-start, reversing-again, reversing-done}
 use Rattle.walk.proofs.lent.reverse.Statement.{statement}
 use Rattle.walk.proofs.lent.reverse.Tie as tie
 
 abbrev Inv-loop : tie.InvT-loop
-Inv-loop s₀ k i₀ i-end s i = Turning k i s₀ s × ((i ≤ k / 2) × (i-end ≡ k / 2))
+Inv-loop s₀ k i₀ i-end s i = Reversing k i s₀ s × ((i ≤ k / 2) × (i-end ≡ k / 2))
 
 abbrev μ-loop : tie.MeasureT-loop
 μ-loop s₀ k i₀ i-end s i = i-end - i
 
 loop-holds : tie.Need-loop-holds Inv-loop μ-loop
-loop-holds c = (turning-start _ _, (omega arith, refl))
+loop-holds c = (reversing-start _ _, (omega arith, refl))
 
 sub-j : tie.Need-sub-j Inv-loop μ-loop
 sub-j c = search needs
@@ -60,9 +61,9 @@ loop-again c =
     let st = p .before .before in
     let k = st .args .k in
     let i = p .loop .i in
-    let l : length (p .loop .points) ≡ 7 * k = p .loop .inv .0 .size ∙ st .pre .0 in
+    let l : length (p .loop .points) ≡ width * k = p .loop .inv .0 .size ∙ st .pre .0 in
     let h : i < k / 2 = omega (arith, t .loop-test .taken) in (
-      turning-again k i (now (st .args .points)) (p .loop .points) (st .pre .0) h (p .loop .inv .0)
+      reversing-again k i (now (st .args .points)) (p .loop .points) (st .pre .0) h (p .loop .inv .0)
           (r₁ .row-of .ensures ∙ row-there (p .loop .points) i (omega (arith, l, h)))
           (r₂ .row-of2 .ensures ∙ row-there (p .loop .points) (k - 1 - i) (omega (arith, l, h)))
           (v .put .ensures) (u .put2 .ensures),
@@ -76,7 +77,7 @@ returns : tie.Need-returns Inv-loop μ-loop
 returns c =
     let p = c .before in
     let st = p .before .before in
-    turning-done (st .args .k) (p .loop .i) (now (st .args .points)) (p .loop .points) (st .pre .0) (omega (arith, c .loop-test .left)) (p .loop .inv .1 .0) (p .loop .inv .0)
+    reversing-done (st .args .k) (p .loop .i) (now (st .args .points)) (p .loop .points) (st .pre .0) (omega (arith, c .loop-test .left)) (p .loop .inv .1 .0) (p .loop .inv .0)
 
 pub reverse-spec : {M : Type 1} → statement M
 reverse-spec =

@@ -1,9 +1,10 @@
-use mathlib.Core.Path.{_∙_}
+use mathlib.Core.Path.{_∙_, ap}
 use borrow.Author.Needs.{needs}
-use denote.Ref.{now}
-use Rattle.walk.proofs.Lines.{cleared}
 use borrow.Author.Tests.{le-leb, lt-leb}
-use Rattle.walk.specs.Trace.{finishedOf}
+use denote.Ref.{now}
+use Rattle.groups.specs.Groups.{leastPoints}
+use Rattle.walk.specs.Trace.{outcome, finishedOf}
+use Rattle.walk.proofs.Lists.{cleared}
 use Rattle.walk.proofs.line.finish.Statement.{statement}
 use Rattle.walk.proofs.line.finish.Tie as tie
 
@@ -16,8 +17,9 @@ same-length c = search needs
 returns : tie.Need-returns
 unfolding finishedOf
 returns c =
-    let short = lt-leb 4 _ (c .before .before .before .before .if1 .taken) in
-    (rw short, rw short (c .before .before .clear .ensures ∙ cleared (now (c .before .before .before .before .before .before .args .points))))
+    let u = c .before .before in
+    let t = u .before .before in
+    rw (lt-leb leastPoints _ (t .if1 .taken)) (ap (outcome _) (u .clear .ensures ∙ cleared (now (t .before .before .args .points))))
 
 mul-clear : tie.Need-mul-clear
 mul-clear c = search needs
@@ -31,8 +33,8 @@ same-length-2 c = search needs
 returns-2 : tie.Need-returns-2
 unfolding finishedOf
 returns-2 c =
-    let long = le-leb 4 _ (c .before .before .before .before .if1 .left) in
-    (rw long, rw long (c .before .before .clear2 .ensures))
+    let u = c .before .before in
+    rw (le-leb leastPoints _ (u .before .before .if1 .left)) (ap (outcome _) (u .clear2 .ensures))
 
 pub finish-spec : {M : Type 1} → statement M
 finish-spec =

@@ -2,7 +2,7 @@ use mathlib.Core.Path.{sym}
 use native.Mathlib.Omega.{arith}
 use borrow.Author.Needs.{needs}
 use denote.Ref.{now}
-use Rattle.walk.proofs.Lines.{joined, joined-first}
+use Rattle.walk.proofs.Joining.{joined, joined-first}
 use Rattle.walk.proofs.line.join.Statement.{statement}
 use Rattle.walk.proofs.line.join.Tie as tie
 

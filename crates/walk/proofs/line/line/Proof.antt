@@ -1,17 +1,66 @@
 -- The start, the forward half behind it, the backward half behind that, then joined.
 use mathlib.Core.Path.{sym, ap, _∙_}
 use mathlib.Core.Bool.{Bool}
-use Prim.Native.Nat.{_≤_}
+use Prim.Native.Nat.{_+_, _*_, _≤_}
 use native.Mathlib.Omega.{arith}
 use borrow.Author.Needs.{needs}
+use mathlib.Core.List.{List}
+use lib.Ieee.{Float}
 use denote.Ref.{now}
 use Rattle.loops.specs.Loop.{pick}
+use Rattle.groups.specs.Groups.{width}
 use Rattle.geometry.specs.declared.point.Point3D.{Point3D}
-use Rattle.walk.specs.Lent.{rowFor}
-use Rattle.walk.specs.Trace.{Outcome}
-use Rattle.walk.proofs.Lines.{len₃, needs₁, needs₂, settled-round, settled-both}
+use Rattle.walk.specs.Lent.{rowFor, ownRow}
+use Rattle.walk.specs.Half.{Half, halfOf}
+use Rattle.walk.specs.Line.{forward, backward}
+use Rattle.walk.specs.Trace.{mostSteps, settled}
+use Rattle.walk.proofs.Lists.{backFrom}
+use Rattle.walk.proofs.Lines.{Started, Forward, Both, started, needs-forward, forward-half, needs-backward, backward-half, settled-forward, settled-both, closed-forward, both-halves}
 use Rattle.walk.proofs.line.line.Statement.{statement}
 use Rattle.walk.proofs.line.line.Tie as tie
+
+-- ---- what the calls leave
+
+abbrev halfFrom : tie.Start → Float → Half
+halfFrom s dir = halfOf (s .args .a) (s .args .b) (s .args .tol) dir (s .args .x) (s .args .t) (s .args .n)
+
+module _ (c : tie.After-put) where
+  abbrev start : tie.Start
+  start = c .before .before .before .before
+
+  start-put : Started (ownRow (start .args .a)) (start .args .x) (start .args .n) (c .put .last .0)
+  start-put =
+      started (now (start .args .points)) (start .pre .1 .1) (c .put .ensures)
+      (c .before .row-for .ensures ∙ ap (λ (q : Point3D). rowFor q (start .args .x)) (start .pre .0))
+
+module _ (c : tie.After-half) where
+  abbrev put-before : tie.After-put
+  put-before = c .before .before .before .before
+
+  abbrev begin : tie.Start
+  begin = start put-before
+
+  abbrev after-forward : List Float
+  after-forward = backFrom width (put-before .put .last .0) (c .half .last .0)
+
+  forward-put : Forward (ownRow (begin .args .a)) (begin .args .x) (begin .args .n) (halfFrom begin forward) after-forward (c .half .result .count)
+  forward-put = forward-half (start-put put-before) (c .half .kept .0) (c .half .ensures)
+
+module _ (c : tie.After-half2) where
+  abbrev half-before : tie.After-half
+  half-before = c .before .before .before .before .before .before
+
+  abbrev first : tie.Start
+  first = begin half-before
+
+  both-put : Both (ownRow (first .args .a)) (first .args .x) (first .args .n) (halfFrom first forward) (halfFrom first backward)
+      (backFrom (width * (1 + half-before .half .result .count)) (after-forward half-before) (c .half2 .last .0)) (half-before .half .result .count) (c .half2 .result .count)
+  both-put = backward-half (forward-put half-before) (c .half2 .kept .0) (c .half2 .ensures)
+
+  cap : first .args .n ≤ mostSteps
+  cap = first .pre .1 .0
+
+-- ---- the needs
 
 row-for-requires : tie.Need-row-for-requires
 row-for-requires c κs = search needs
@@ -30,10 +79,9 @@ part-half-end c = search needs
 
 half-requires : tie.Need-half-requires
 half-requires c κs =
-    let st = c .before .before .before .before .before .before .before in
-    let g = st .args in
-    let pu = c .before .before .before in
-    (st .pre .0, (st .pre .1 .0, needs₁ (g .a) (g .b) (g .tol) (g .x) (g .t) (g .n) (now (g .points)) (pu .put .last .0) (now (g .points)) (pu .before .row-for .result) 0 (st .pre .1 .1) (pu .put .ensures)))
+    let u = c .before .before .before in
+    let st = start u in
+    (st .pre .0, (st .pre .1 .0, needs-forward (start-put u)))
 
 add-finish : tie.Need-add-finish
 add-finish c = search needs
@@ -46,12 +94,10 @@ same-length c = search needs
 
 returns : tie.Need-returns
 returns c =
-    let st = c .before .before .before .before .before .before .before .before .before .before .before .before .before .before .before .before in
-    let g = st .args in
-    let pu = c .before .before .before .before .before .before .before .before .before .before .before .before in
-    let h₁ = c .before .before .before .before .before .before .before .before in
-    let e = settled-round (g .a) (g .b) (g .tol) (g .x) (g .t) (g .n) (now (g .points)) (pu .put .last .0) (h₁ .half .last .0) (pu .before .row-for .result) (h₁ .half .result .count) (st .pre .1 .1) (pu .put .ensures) (h₁ .half .kept .0) (h₁ .half .ensures .1 .1 .0) (pu .before .row-for .ensures ∙ ap (λ (q : Point3D). rowFor q (g .x)) (st .pre .0)) (h₁ .half .ensures .0) (h₁ .half .ensures .1 .1 .1) (sym (h₁ .half .ensures .1 .0) ∙ c .before .before .before .before .before .if1 .taken) in
-    (c .before .before .finish .ensures .0 ∙ ap (λ (o : Outcome). o .answer) e, c .before .before .finish .ensures .1 ∙ ap (λ (o : Outcome). o .buffer) e)
+    let u = c .before .before in
+    let t = u .before .before .before in
+    let h = t .before .before .before in
+    u .finish .ensures ∙ settled-forward (forward-put h) ∙ ap (settled _ _) (closed-forward _ _ _ _ _ _ (sym (h .half .ensures .ends) ∙ t .if1 .taken))
 
 add-behind : tie.Need-add-behind
 add-behind c = search needs
@@ -73,45 +119,29 @@ part-half-end-2 c = search needs
 
 half-requires-2 : tie.Need-half-requires-2
 half-requires-2 c κs =
-    let st = c .before .before .before .before .before .before .before .before .before .before .before .before .before in
-    let g = st .args in
-    let pu = c .before .before .before .before .before .before .before .before .before in
-    let h₁ = c .before .before .before .before .before in
-    (st .pre .0, (st .pre .1 .0, needs₂ (g .a) (g .b) (g .tol) (g .x) (g .t) (g .n) (now (g .points)) (pu .put .last .0) (h₁ .half .last .0) (pu .before .row-for .result) (h₁ .half .result .count) (st .pre .1 .1) (pu .put .ensures) (h₁ .half .kept .0) (h₁ .half .ensures .1 .1 .0)))
+    let h = c .before .before .before .before .before in
+    let st = begin h in
+    (st .pre .0, (st .pre .1 .0, needs-backward (forward-put h)))
 
 join-requires : tie.Need-join-requires
 join-requires c κs =
-    let st = c .before .before .before .before .before .before .before .before .before .before .before .before .before .before .before .before .before in
-    let g = st .args in
-    let pu = c .before .before .before .before .before .before .before .before .before .before .before .before .before in
-    let h₁ = c .before .before .before .before .before .before .before .before .before in
-    let h₂ = c .before .before .before in
-    let n₂ : g .n ≤ 2000 = st .pre .1 .0 in
-    let f₁ : h₁ .half .result .count ≤ g .n = h₁ .half .ensures .1 .1 .0 in
-    let f₂ : h₂ .half2 .result .count ≤ g .n = h₂ .half2 .ensures .1 .1 .0 in
-    let e = len₃ (g .a) (g .b) (g .tol) (g .x) (g .t) (g .n) (now (g .points)) (pu .put .last .0) (h₁ .half .last .0) (pu .before .row-for .result) (h₁ .half .result .count) (st .pre .1 .1) (pu .put .ensures) (h₁ .half .kept .0) (h₁ .half .ensures .1 .1 .0) (h₂ .half2 .last .0) (h₂ .half2 .kept .0) in
-    (omega (arith, e, f₁, f₂, n₂), (omega (arith, f₁, n₂), omega (arith, f₂, n₂)))
+    let h = c .before .before .before in
+    let e = both-put h in
+    let k = cap h in
+    (omega arith, (omega arith, omega arith))
 
 add-count : tie.Need-add-count
 add-count c =
-    let st = c .before .before .before .before .before .before .before .before .before .before .before .before .before .before .before .before .before .before .before .before .before in
-    let g = st .args in
-    let h₁ = c .before .before .before .before .before .before .before .before .before .before .before .before .before in
-    let h₂ = c .before .before .before .before .before .before .before in
-    let n₂ : g .n ≤ 2000 = st .pre .1 .0 in
-    let f₁ : h₁ .half .result .count ≤ g .n = h₁ .half .ensures .1 .1 .0 in
-    let f₂ : h₂ .half2 .result .count ≤ g .n = h₂ .half2 .ensures .1 .1 .0 in
+    let h = c .before .before .before .before .before .before .before in
+    let e = both-put h in
+    let k = cap h in
     search needs
 
 add-count-2 : tie.Need-add-count-2
 add-count-2 c =
-    let st = c .before .before .before .before .before .before .before .before .before .before .before .before .before .before .before .before .before .before .before .before .before .before in
-    let g = st .args in
-    let h₁ = c .before .before .before .before .before .before .before .before .before .before .before .before .before .before in
-    let h₂ = c .before .before .before .before .before .before .before .before in
-    let n₂ : g .n ≤ 2000 = st .pre .1 .0 in
-    let f₁ : h₁ .half .result .count ≤ g .n = h₁ .half .ensures .1 .1 .0 in
-    let f₂ : h₂ .half2 .result .count ≤ g .n = h₂ .half2 .ensures .1 .1 .0 in
+    let h = c .before .before .before .before .before .before .before .before in
+    let e = both-put h in
+    let k = cap h in
     search needs
 
 backward-code-requires : tie.Need-backward-code-requires
@@ -119,32 +149,24 @@ backward-code-requires c κs = search needs
 
 finish-requires-2 : tie.Need-finish-requires-2
 finish-requires-2 c κs =
-    let st = c .before .before .before .before .before .before .before .before .before .before .before .before .before .before .before .before .before .before .before .before .before .before .before .before in
-    let g = st .args in
-    let pu = c .before .before .before .before .before .before .before .before .before .before .before .before .before .before .before .before .before .before .before .before in
-    let h₁ = c .before .before .before .before .before .before .before .before .before .before .before .before .before .before .before .before in
-    let h₂ = c .before .before .before .before .before .before .before .before .before .before in
-    let n₂ : g .n ≤ 2000 = st .pre .1 .0 in
-    let f₁ : h₁ .half .result .count ≤ g .n = h₁ .half .ensures .1 .1 .0 in
-    let f₂ : h₂ .half2 .result .count ≤ g .n = h₂ .half2 .ensures .1 .1 .0 in
-    let e = len₃ (g .a) (g .b) (g .tol) (g .x) (g .t) (g .n) (now (g .points)) (pu .put .last .0) (h₁ .half .last .0) (pu .before .row-for .result) (h₁ .half .result .count) (st .pre .1 .1) (pu .put .ensures) (h₁ .half .kept .0) (h₁ .half .ensures .1 .1 .0) (h₂ .half2 .last .0) (h₂ .half2 .kept .0) in
-    let k = c .before .before .before .before .before .before .join .kept .0 ∙ e in
-    (omega (arith, k, f₁, f₂, n₂), omega (arith, f₁, f₂, n₂))
+    let j = c .before .before .before .before .before .before in
+    let h = j .before .before .before .before in
+    let e = both-put h in
+    let k = cap h in
+    let m = j .join .kept .0 in
+    (omega arith, omega arith)
 
 same-length-2 : tie.Need-same-length-2
 same-length-2 c = search needs
 
 returns-2 : tie.Need-returns-2
 returns-2 c =
-    let st = c .before .before .before .before .before .before .before .before .before .before .before .before .before .before .before .before .before .before .before .before .before .before .before .before .before .before .before in
-    let g = st .args in
-    let pu = c .before .before .before .before .before .before .before .before .before .before .before .before .before .before .before .before .before .before .before .before .before .before .before in
-    let h₁ = c .before .before .before .before .before .before .before .before .before .before .before .before .before .before .before .before .before .before .before in
-    let h₂ = c .before .before .before .before .before .before .before .before .before .before .before .before .before in
-    let j = c .before .before .before .before .before .before .before .before .before in
-    let d = c .before .before .before .before in
-    let e = settled-both (g .a) (g .b) (g .tol) (g .x) (g .t) (g .n) (now (g .points)) (pu .put .last .0) (h₁ .half .last .0) (pu .before .row-for .result) (h₁ .half .result .count) (st .pre .1 .1) (pu .put .ensures) (h₁ .half .kept .0) (h₁ .half .ensures .1 .1 .0) (pu .before .row-for .ensures ∙ ap (λ (q : Point3D). rowFor q (g .x)) (st .pre .0)) (h₁ .half .ensures .0) (h₁ .half .ensures .1 .1 .1) (h₂ .half2 .last .0) (j .join .last .0) (h₂ .half2 .result .count) (h₂ .half2 .kept .0) (h₂ .half2 .ensures .1 .1 .0) (h₂ .half2 .ensures .0) (h₂ .half2 .ensures .1 .1 .1) (j .join .ensures) (j .join .kept .0) (d .backward-code .result) (sym (h₁ .half .ensures .1 .0) ∙ c .before .before .before .before .before .before .before .before .before .before .before .before .before .before .before .before .if1 .left) (d .backward-code .ensures ∙ ap (λ (t : Bool). pick t 2 0) (h₂ .half2 .ensures .1 .0)) in
-    (c .before .before .finish2 .ensures .0 ∙ ap (λ (o : Outcome). o .answer) e, c .before .before .finish2 .ensures .1 ∙ ap (λ (o : Outcome). o .buffer) e)
+    let u = c .before .before in
+    let d = u .before .before in
+    let j = d .before .before .before .before .before in
+    let h = j .before .before .before .before in
+    u .finish2 .ensures ∙ settled-both (both-put h) (j .join .ensures) (j .join .kept .0) (d .backward-code .ensures ∙ ap (λ (t : Bool). pick t 2 0) (h .half2 .ensures .ends))
+    ∙ ap (settled _ _) (both-halves _ _ _ _ _ _ (sym (half-before h .half .ensures .ends) ∙ h .before .before .before .if1 .left))
 
 pub line-spec : {M : Type 1} → statement M
 line-spec =

@@ -1,52 +1,91 @@
+use Prim.Native.Nat.{_≤_}
+use mathlib.Core.Path.{sym, _∙_}
 use borrow.Author.Needs.{needs}
-use Rattle.walk.specs.Trace.{callFitness}
+use borrow.Author.Tests.{not-true, not-false}
+use Rattle.walk.specs.Trace.{mostSteps, callFitness}
+use Rattle.walk.proofs.Calls.{cap-least}
 use Rattle.walk.proofs.trace.call_fitness.Statement.{statement}
 use Rattle.walk.proofs.trace.call_fitness.Tie as tie
 
-fitness-requires : tie.Need-fitness-requires
-fitness-requires c κs = search needs
-
-enum-known-first : tie.Need-enum-known-first
-enum-known-first c = search needs
+pair-fitness-requires : tie.Need-pair-fitness-requires
+pair-fitness-requires c κs = search needs
 
 enum-told : tie.Need-enum-told
 enum-told c = search needs
 
-fitness-requires-2 : tie.Need-fitness-requires-2
-fitness-requires-2 c κs = search needs
-
-enum-known-second : tie.Need-enum-known-second
-enum-known-second c = search needs
-
 enum-told-2 : tie.Need-enum-told-2
 enum-told-2 c = search needs
 
-limits-requires : tie.Need-limits-requires
-limits-requires c κs = search needs
-
 returns : tie.Need-returns
 unfolding callFitness
-returns c = rw (← c .before .before .before .fitness .ensures, c .before .first .given .1)
+returns c = rw (← c .before .before .pair-fitness .ensures, c .enum-told2 .given .1)
+
+guess-finite-requires : tie.Need-guess-finite-requires
+guess-finite-requires c κs = search needs
 
 returns-2 : tie.Need-returns-2
 unfolding callFitness
-returns-2 c = rw (← c .before .before .before .before .before .before .fitness .ensures, c .before .before .before .before .enum-told .given .1, ← c .before .before .before .fitness2 .ensures, c .before .second .given .1)
+returns-2 c =
+    let g = c .before in
+    let t = g .before in
+    rw (← t .before .before .pair-fitness .ensures, t .enum-told .given .1, ← g .guess-finite .ensures, not-true (g .guess-finite .result) (c .if1 .taken))
+
+cap-fits-requires : tie.Need-cap-fits-requires
+cap-fits-requires c κs = search needs
 
 returns-3 : tie.Need-returns-3
 unfolding callFitness
-returns-3 c = rw (← c .before .before .before .before .before .before .fitness .ensures, c .before .before .before .before .enum-told .given .1, ← c .before .before .before .fitness2 .ensures, c .before .enum-told2 .given .1, ← c .limits .ensures)
+returns-3 c =
+    let k = c .before in
+    let g = k .before .before in
+    let t = g .before in
+    rw (← t .before .before .pair-fitness .ensures, t .enum-told .given .1, ← g .guess-finite .ensures, not-false (g .guess-finite .result) (k .before .if1 .left), ← k .cap-fits .ensures, not-true (k .cap-fits .result) (c .if2 .taken))
+
+mul-holds : tie.Need-mul-holds
+mul-holds c =
+    let k = cap-least _ (sym (c .before .cap-fits .ensures) ∙ not-false _ (c .if2 .left)) in
+    search needs
+
+add-holds : tie.Need-add-holds
+add-holds c =
+    let k = cap-least _ (sym (c .before .cap-fits .ensures) ∙ not-false _ (c .if2 .left)) in
+    search needs
+
+holds-requires : tie.Need-holds-requires
+holds-requires c κs = search needs
+
+returns-4 : tie.Need-returns-4
+unfolding callFitness
+returns-4 c =
+    let h = c .before in
+    let k = h .before .before in
+    let g = k .before .before in
+    let t = g .before in
+    rw (← t .before .before .pair-fitness .ensures, t .enum-told .given .1, ← g .guess-finite .ensures, not-false (g .guess-finite .result) (k .before .if1 .left), ← k .cap-fits .ensures, not-false (k .cap-fits .result) (h .before .if2 .left), ← h .holds .ensures, not-true (h .holds .result) (c .if3 .taken))
+
+returns-5 : tie.Need-returns-5
+unfolding callFitness
+returns-5 c =
+    let h = c .before in
+    let k = h .before .before in
+    let g = k .before .before in
+    let t = g .before in
+    rw (← t .before .before .pair-fitness .ensures, t .enum-told .given .1, ← g .guess-finite .ensures, not-false (g .guess-finite .result) (k .before .if1 .left), ← k .cap-fits .ensures, not-false (k .cap-fits .result) (h .before .if2 .left), ← h .holds .ensures, not-false (h .holds .result) (c .if3 .left))
 
 pub call-fitness-spec : {M : Type 1} → statement M
 call-fitness-spec =
     tie.close
     (tie.spec
-    fitness-requires
-    enum-known-first
+    pair-fitness-requires
     enum-told
-    fitness-requires-2
-    enum-known-second
     enum-told-2
-    limits-requires
     returns
+    guess-finite-requires
     returns-2
-    returns-3)
+    cap-fits-requires
+    returns-3
+    mul-holds
+    add-holds
+    holds-requires
+    returns-4
+    returns-5)

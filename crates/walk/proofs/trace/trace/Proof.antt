@@ -1,15 +1,22 @@
 use mathlib.Core.Path.{sym, ap, _∙_}
-use mathlib.Core.List.{List, _++_}
+use mathlib.Core.List.{_++_}
 use native.Mathlib.Omega.{arith}
 use borrow.Author.Needs.{needs}
 use denote.Ref.{now}
-use lib.Ieee.{Float}
 use lib.ListN.{drop}
 use lib.Seq.{length-take-le}
-use Rattle.walk.specs.Trace.{room, traceOf}
-use Rattle.walk.proofs.Calls.{call-fit}
+use Rattle.walk.specs.Trace.{Outcome, outcome, room, traceOf}
+use Rattle.walk.proofs.Calls.{CallFit, call-fit}
 use Rattle.walk.proofs.trace.trace.Statement.{statement}
 use Rattle.walk.proofs.trace.trace.Tie as tie
+
+-- where nothing is refused
+module _ (c : tie.After-enum-told) where
+  abbrev start : tie.Start
+  start = c .before .before .before .before .before
+
+  fit : CallFit (start .args .a) (start .args .b) (start .args .tol) (start .args .cap) (now (start .args .buffer))
+  fit = call-fit (start .args .guess) (sym (c .before .before .call-fitness .ensures) ∙ c .enum-told .given .1)
 
 call-fitness-requires : tie.Need-call-fitness-requires
 call-fitness-requires c κs = search needs
@@ -22,45 +29,36 @@ enum-told c = search needs
 
 mul-room : tie.Need-mul-room
 mul-room c =
-    let f = call-fit (c .before .before .before .before .before .args .a) (c .before .before .before .before .before .args .b) (c .before .before .before .before .before .args .tol) (c .before .before .before .before .before .args .guess) (c .before .before .before .before .before .args .cap) (now (c .before .before .before .before .before .args .buffer)) (_∙_ (sym (c .before .before .call-fitness .ensures)) (c .enum-told .given .1)) in
-    let k = f .3 in
+    let f = fit c .cap in
     search needs
 
 add-room : tie.Need-add-room
 add-room c =
-    let f = call-fit (c .before .before .before .before .before .args .a) (c .before .before .before .before .before .args .b) (c .before .before .before .before .before .args .tol) (c .before .before .before .before .before .args .guess) (c .before .before .before .before .before .args .cap) (now (c .before .before .before .before .before .args .buffer)) (_∙_ (sym (c .before .before .call-fitness .ensures)) (c .enum-told .given .1)) in
-    let k = f .3 in
+    let f = fit c .cap in
     search needs
 
 mul-room-2 : tie.Need-mul-room-2
 mul-room-2 c =
-    let f = call-fit (c .before .before .before .before .before .args .a) (c .before .before .before .before .before .args .b) (c .before .before .before .before .before .args .tol) (c .before .before .before .before .before .args .guess) (c .before .before .before .before .before .args .cap) (now (c .before .before .before .before .before .args .buffer)) (_∙_ (sym (c .before .before .call-fitness .ensures)) (c .enum-told .given .1)) in
-    let k = f .3 in
+    let f = fit c .cap in
     search needs
 
 slice-relend-prefix-walk-from : tie.Need-slice-relend-prefix-walk-from
 slice-relend-prefix-walk-from c =
-    let f = call-fit (c .before .before .before .before .before .args .a) (c .before .before .before .before .before .args .b) (c .before .before .before .before .before .args .tol) (c .before .before .before .before .before .args .guess) (c .before .before .before .before .before .args .cap) (now (c .before .before .before .before .before .args .buffer)) (_∙_ (sym (c .before .before .call-fitness .ensures)) (c .enum-told .given .1)) in
-    let k = f .4 in
-    let m = f .3 in
+    let f = fit c in
     search needs
 
 slice-aggregate-walk-from : tie.Need-slice-aggregate-walk-from
-slice-aggregate-walk-from c =
-    let f = call-fit (c .before .before .before .before .before .before .args .a) (c .before .before .before .before .before .before .args .b) (c .before .before .before .before .before .before .args .tol) (c .before .before .before .before .before .before .args .guess) (c .before .before .before .before .before .before .args .cap) (now (c .before .before .before .before .before .before .args .buffer)) (_∙_ (sym (c .before .before .before .call-fitness .ensures)) (c .before .enum-told .given .1)) in
-    sym (length-take-le _ _ (omega (arith, f .4)))
+slice-aggregate-walk-from c = sym (length-take-le _ _ (omega (arith, fit (c .before) .lent)))
 
 walk-from-requires : tie.Need-walk-from-requires
-walk-from-requires c κs =
-    let f = call-fit (c .before .before .before .before .before .before .args .a) (c .before .before .before .before .before .before .args .b) (c .before .before .before .before .before .before .args .tol) (c .before .before .before .before .before .before .args .guess) (c .before .before .before .before .before .before .args .cap) (now (c .before .before .before .before .before .before .args .buffer)) (_∙_ (sym (c .before .before .before .call-fitness .ensures)) (c .before .enum-told .given .1)) in
-    (f .3, length-take-le _ _ (omega (arith, f .4)))
+walk-from-requires c κs = (fit (c .before) .cap, length-take-le _ _ (omega (arith, fit (c .before) .lent)))
 
 same-length : tie.Need-same-length
 same-length c = search needs
 
 returns : tie.Need-returns
 unfolding traceOf
-returns c = (rw (← c .before .before .before .call-fitness .ensures, c .before .fitness .given .1), rw (← c .before .before .before .call-fitness .ensures, c .before .fitness .given .1))
+returns c = rw (← c .before .before .before .call-fitness .ensures, c .before .fitness .given .1)
 
 same-length-2 : tie.Need-same-length-2
 same-length-2 c = search needs
@@ -68,7 +66,11 @@ same-length-2 c = search needs
 returns-2 : tie.Need-returns-2
 unfolding traceOf
 returns-2 c =
-    (rw (← c .before .before .before .before .before .before .call-fitness .ensures, c .before .before .before .before .enum-told .given .1) (c .before .before .walk-from .ensures .0), rw (← c .before .before .before .before .before .before .call-fitness .ensures, c .before .before .before .before .enum-told .given .1) (ap (λ (l : List Float). l ++ drop (room (c .before .before .before .before .before .before .before .before .before .args .cap)) (now (c .before .before .before .before .before .before .before .before .before .args .buffer))) (c .before .before .walk-from .ensures .1)))
+    let w = c .before .before in
+    let t = w .before .before in
+    let g = start t .args in
+    rw (← t .before .before .call-fitness .ensures, t .enum-told .given .1)
+    (ap (λ (o : Outcome). outcome (o .answer) (o .buffer ++ drop (room (g .cap)) (now (g .buffer)))) (w .walk-from .ensures))
 
 pub trace-spec : {M : Type 1} → statement M
 trace-spec =

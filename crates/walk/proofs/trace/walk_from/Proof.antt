@@ -1,10 +1,13 @@
 -- A law for each way out, from what the meeting and the tangent say.
 use mathlib.Core.Path.{_≡_, sym, ap, _∙_}
-use Prim.Native.Nat.{ℕ}
+use mathlib.Core.List.{List, _++_}
+use Prim.Native.Nat.{ℕ, _-_}
 use borrow.Author.Needs.{needs}
 use denote.Ref.{now}
-use lib.ListN.{replicate}
+use lib.Ieee.{Float}
+use lib.ListN.{length, take, replicate}
 use Rattle.number.specs.Helpers.{positiveZero}
+use Rattle.refusal.specs.declared.Refusal.{Refusal}
 use Rattle.refusal.specs.declared.Refusal.the-variants as refusal
 use Rattle.geometry.specs.declared.vector.Vector3D.{Vector3D}
 use Rattle.geometry.specs.declared.tolerance.Tolerance.{Tolerance}
@@ -14,9 +17,11 @@ use Rattle.meeting.specs.declared.newton.Met.the-variants as met
 use Rattle.meeting.specs.Newton.{meetOf}
 use Rattle.tangent.specs.declared.Direction.the-variants as direction
 use Rattle.tangent.specs.Tangent.{tangentOf}
+use Rattle.walk.specs.Lent.{ownRow}
 use Rattle.walk.specs.Line.{lineOf}
-use Rattle.walk.specs.Trace.{Outcome, refusedWalk, settled, walkOf}
-use Rattle.walk.proofs.Lines.{cleared}
+use Rattle.walk.specs.declared.answer.Traced.the-variants.{Refused}
+use Rattle.walk.specs.Trace.{outcome, room, refusedWalk, settled, walkOf}
+use Rattle.walk.proofs.Lists.{cleared}
 use Rattle.walk.proofs.trace.walk_from.Statement.{statement}
 use Rattle.walk.proofs.trace.walk_from.Tie as tie
 
@@ -29,9 +34,14 @@ module _ (a b : Patch) (tol : Tolerance) (guess : Parameters) (n : ℕ) where
   unfolding walkOf
   ten x m d = rw (m, d)
 
-  along : (x : Parameters) (t : Vector3D) → meetOf a b guess tol ≡ met.At x → tangentOf a b x tol ≡ direction.Along t → settled a n (lineOf a b tol x t n) ≡ walkOf a b tol guess n
+  along : (x : Parameters) (t : Vector3D) → meetOf a b guess tol ≡ met.At x → tangentOf a b x tol ≡ direction.Along t → settled (ownRow a) n (lineOf a b tol x t n) ≡ walkOf a b tol guess n
   unfolding walkOf
   along x t m d = rw (m, d)
+
+-- a refusal leaves zeros
+zeros : (l : List Float) (n : ℕ) {m : List Float} (r : Refusal) → length l ≡ room n → m ≡ take 0 l ++ replicate (length l - 0) positiveZero
+    → outcome (Refused r) m ≡ refusedWalk r n
+zeros l n r h e = ap (outcome (Refused r)) (e ∙ cleared l ∙ ap (λ (k : ℕ). replicate k positiveZero) h)
 
 meet-requires : tie.Need-meet-requires
 meet-requires c κs = search needs
@@ -50,12 +60,11 @@ same-length c = search needs
 
 returns : tie.Need-returns
 returns c =
-    let m = c .before .before .before .before .before .before in
-    let st = m .before .before in
-    let g = st .args in
-    let e = nine (g .a) (g .b) (g .tol) (g .guess) (g .n) (sym (m .meet .ensures) ∙ c .before .before .before .before .enum-told .given .1) in
-    let z = c .before .before .clear .ensures ∙ cleared (now (g .points)) ∙ ap (λ (k : ℕ). replicate k positiveZero) (st .pre .1) in
-    (ap (λ (o : Outcome). o .answer) e, z ∙ ap (λ (o : Outcome). o .buffer) e)
+    let u = c .before .before in
+    let t = u .before .before in
+    let m = t .before .before in
+    let s = m .before .before in
+    zeros (now (s .args .points)) _ _ (s .pre .1) (u .clear .ensures) ∙ nine _ _ _ _ _ (sym (m .meet .ensures) ∙ t .enum-told .given .1)
 
 tangent-requires : tie.Need-tangent-requires
 tangent-requires c κs = search needs
@@ -74,33 +83,34 @@ same-length-2 c = search needs
 
 returns-2 : tie.Need-returns-2
 returns-2 c =
-    let d = c .before .before .before .before .before .before in
+    let u = c .before .before in
+    let t = u .before .before in
+    let d = t .before .before in
     let x = d .before .before in
     let m = x .before .before in
-    let st = m .before .before in
-    let g = st .args in
-    let e = ten (g .a) (g .b) (g .tol) (g .guess) (g .n) _ (sym (m .meet .ensures) ∙ x .seed .given .1) (sym (d .tangent .ensures) ∙ c .before .before .before .before .enum-told2 .given .1) in
-    let z = c .before .before .clear2 .ensures ∙ cleared (now (g .points)) ∙ ap (λ (k : ℕ). replicate k positiveZero) (st .pre .1) in
-    (ap (λ (o : Outcome). o .answer) e, z ∙ ap (λ (o : Outcome). o .buffer) e)
+    let s = m .before .before in
+    zeros (now (s .args .points)) _ _ (s .pre .1) (u .clear2 .ensures) ∙ ten _ _ _ _ _ _ (sym (m .meet .ensures) ∙ x .seed .given .1) (sym (d .tangent .ensures) ∙ t .enum-told2 .given .1)
 
 eval-point-requires : tie.Need-eval-point-requires
 eval-point-requires c κs = search needs
 
 line-requires : tie.Need-line-requires
-line-requires c κs = (c .before .eval-point .ensures, c .before .before .before .before .before .before .before .before .before .before .before .pre)
+line-requires c κs =
+    let t = c .before .before in
+    let m = t .before .before .before .before .before .before .before in
+    (c .before .eval-point .ensures, m .before .before .pre)
 
 same-length-3 : tie.Need-same-length-3
 same-length-3 c = search needs
 
 returns-3 : tie.Need-returns-3
 returns-3 c =
-    let d = c .before .before .before .before .before .before .before .before in
+    let u = c .before .before in
+    let t = u .before .before .before .before in
+    let d = t .before .before in
     let x = d .before .before in
     let m = x .before .before in
-    let g = m .before .before .args in
-    let e = along (g .a) (g .b) (g .tol) (g .guess) (g .n) _ _ (sym (m .meet .ensures) ∙ x .seed .given .1) (sym (d .tangent .ensures) ∙ c .before .before .before .before .before .before .t .given .1) in
-    let z = c .before .before .line .ensures in
-    (z .0 ∙ ap (λ (o : Outcome). o .answer) e, z .1 ∙ ap (λ (o : Outcome). o .buffer) e)
+    u .line .ensures ∙ along _ _ _ _ _ _ _ (sym (m .meet .ensures) ∙ x .seed .given .1) (sym (d .tangent .ensures) ∙ t .t .given .1)
 
 pub walk-from-spec : {M : Type 1} → statement M
 walk-from-spec =
