@@ -1,6 +1,6 @@
 // Arguments and the answers of Java's StrictMath, which is fdlibm 5.3 by its specification, as 8-byte big-endian words.
 //
-//   java StrictMathAnswers.java list                     the fixed list that the gate replays
+//   java StrictMathAnswers.java list                     the fixed list that the gate replays (`| tools/lists.py put fdlibm -`)
 //   java StrictMathAnswers.java stream FUNCTION SEED N   N random records of one function: sin, cos, atan or atan2
 //
 // A record of the list is y, x and the bits of sin(x), cos(x), atan(x) and atan2(y, x). Beyond reach, where our sine and

@@ -1,5 +1,6 @@
 #!/usr/bin/env python3
-"""list_job.py STDIN STDOUT: the list of inputs that the program replay_job answers, and the lines that it must write.
+"""list_job.py LIST LINES: the inputs of the job program that the gate replays (`tools/lists.py put job LIST`), and the lines that
+crates/replay/stdout must have for them.
 
 Inputs are document 01's examples 10 to 12 and the cases of refusal 19, with numbers that are NaN patterns among them. A record is a
 2-byte length and 400 bytes, zeros behind the input. The lines follow from 01 alone, but for the two marked "by the Rust".

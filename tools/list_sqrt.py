@@ -1,5 +1,5 @@
 #!/usr/bin/env python3
-"""list_sqrt.py OUT: the list that the program replay_sqrt replays.
+"""list_sqrt.py LIST: the square roots that the gate replays (`tools/lists.py put sqrt LIST`).
 
 Each record is two 8-byte big-endian words: the bits of an argument and those of its square root. The root is the hardware's, by way of
 the C library, and each one is confirmed here by whole numbers (math.isqrt). Every NaN is written as 7ff8000000000000.

@@ -1,5 +1,5 @@
 #!/usr/bin/env python3
-"""list_tolerance.py: the list that crates/replay_tolerance replays, to standard output.
+"""list_tolerance.py: the tolerances that the gate replays, to standard output (`| tools/lists.py put tolerance -`).
 
 Each confusion with each angular: the ends of both ranges (2^-40 and 1; 0 and 1), their neighbours, both zeros, subnormals, infinities, NaN.
 The answer is document 01's rule 5 on exact fractions.

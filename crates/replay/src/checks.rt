@@ -1,11 +1,11 @@
 //! Checks with the answer of a second reading of the scope: how many bytes the job has, how many numbers are lent, the count, the start's
 //! index and the closing code claimed, the answer's word, 352 bytes of which the first are the job, and the words of the numbers.
-use crate::words::at_most;
-use crate::words::load;
-use crate::words::word;
+use recorded::words::at_most;
+use recorded::words::load;
+use recorded::words::word;
 ghost use mathlib.Core.Path.{_≡_};
 ghost use lib.ListN.{length};
-ghost use Rattle.replay.specs.Words.{recordBytes};
+ghost use Rattle.recorded.specs.Words.{recordBytes};
 
 // Where the numbers begin, and how many there are at most.
 pub const NUMBERS: usize = 400;

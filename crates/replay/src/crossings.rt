@@ -1,11 +1,11 @@
 //! Crossings with the answer of the Rust, or the refusal by the scope's rule: 120 words, confusion, angular, how many numbers are lent, the
 //! count, how many corners are given, six corners, the answer's word, and three coordinates for each of 36 points, zeros behind.
-use crate::words::at_most;
-use crate::words::load;
-use crate::words::word;
+use recorded::words::at_most;
+use recorded::words::load;
+use recorded::words::word;
 ghost use mathlib.Core.Path.{_≡_};
 ghost use lib.ListN.{length};
-ghost use Rattle.replay.specs.Words.{recordBytes};
+ghost use Rattle.recorded.specs.Words.{recordBytes};
 
 // The lent numbers. The parameters are NaNs: no answer depends on them.
 fn numbers(bytes: &[u8]) -> [f64; 252] {

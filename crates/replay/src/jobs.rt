@@ -1,9 +1,9 @@
 //! Inputs of the job program, made by `tools/list_job.py`: 402 bytes, a 2-byte length, big-endian, then as many bytes of input, and zeros
 //! behind. The lines are written whole.
-use crate::words::at_most;
+use recorded::words::at_most;
 ghost use mathlib.Core.Path.{_≡_};
 ghost use lib.ListN.{length};
-ghost use Rattle.replay.specs.Words.{recordBytes};
+ghost use Rattle.recorded.specs.Words.{recordBytes};
 
 // Writes the line of an input. False where it could not be written.
 pub fn written(bytes: &[u8]) -> bool

@@ -10,17 +10,17 @@ mod steps;
 mod strict_math;
 mod surfaces;
 mod systems;
-mod tally;
 mod tolerances;
 mod traces;
-mod words;
 
-use tally::Tally;
-use words::RECORD;
+use recorded::tally;
+use recorded::tally::Tally;
+use recorded::words;
+use recorded::words::RECORD;
 ghost use mathlib.Core.Path.{_≡_};
 ghost use Prim.Native.Nat.{_≤_};
 ghost use lib.ListN.{length};
-ghost use Rattle.replay.specs.Words.{recordBytes};
+ghost use Rattle.recorded.specs.Words.{recordBytes};
 
 const KINDS: usize = 10;
 

@@ -1,5 +1,5 @@
 //! Square roots, made by `tools/list_sqrt.py`: argument and root.
-use crate::words::word;
+use recorded::words::word;
 
 pub fn same(bytes: &[u8]) -> bool {
     let root = sqrt::sqrt(number::from_bits(word(bytes, 0)));

@@ -1,11 +1,11 @@
 //! Steps of the walk with the answers of the Rust: 61 words, the function (0 tangent, 1 predict, 2 leaving, 3 meet, 4 meet in a plane,
 //! 5 land), the pin, 54 numbers, the answer's word, and 4 words of output, zeros where nothing is written.
-use crate::words::differ;
-use crate::words::load;
-use crate::words::word;
+use recorded::words::differ;
+use recorded::words::load;
+use recorded::words::word;
 ghost use mathlib.Core.Path.{_≡_};
 ghost use lib.ListN.{length};
-ghost use Rattle.replay.specs.Words.{recordBytes};
+ghost use Rattle.recorded.specs.Words.{recordBytes};
 
 pub fn same(bytes: &[u8]) -> bool
     requires { ⌜ length (now bytes) ≡ recordBytes ⌝ }

@@ -1,12 +1,12 @@
 //! Surfaces and patches with the answers of the Rust: 30 words, what is asked (0 a point, 1 both first derivatives, 2 the public point),
 //! the kind, the marks, 18 numbers (frame, two sizes, two windows), u, v, the answer's word, and the numbers written (6 at most, zeros
 //! behind).
-use crate::words::differ;
-use crate::words::load;
-use crate::words::word;
+use recorded::words::differ;
+use recorded::words::load;
+use recorded::words::word;
 ghost use mathlib.Core.Path.{_≡_};
 ghost use lib.ListN.{length};
-ghost use Rattle.replay.specs.Words.{recordBytes};
+ghost use Rattle.recorded.specs.Words.{recordBytes};
 
 pub fn same(bytes: &[u8]) -> bool
     requires { ⌜ length (now bytes) ≡ recordBytes ⌝ }

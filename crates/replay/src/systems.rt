@@ -1,11 +1,11 @@
 //! Linear systems with the answers of the Rust's solvers: 27 words, the number of unknowns, the matrix row by row with the right side and
 //! tol (21 words at most, zeros behind), the answer's word, and the solution (4 words at most, zeros behind).
-use crate::words::differ;
-use crate::words::load;
-use crate::words::word;
+use recorded::words::differ;
+use recorded::words::load;
+use recorded::words::word;
 ghost use mathlib.Core.Path.{_≡_};
 ghost use lib.ListN.{length};
-ghost use Rattle.replay.specs.Words.{recordBytes};
+ghost use Rattle.recorded.specs.Words.{recordBytes};
 
 pub fn same(bytes: &[u8]) -> bool
     requires { ⌜ length (now bytes) ≡ recordBytes ⌝ }

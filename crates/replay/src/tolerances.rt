@@ -1,7 +1,7 @@
 //! Tolerances, made by `tools/list_tolerance.py`: confusion, angular, and 1 where refusal 5 lets them through. The ends and their outer
 //! neighbours are document 01's example 12.
-use crate::words::word;
 use geometry::Tolerance;
+use recorded::words::word;
 
 pub fn same(bytes: &[u8]) -> bool {
     let tol = Tolerance {

@@ -1,11 +1,11 @@
 //! Traces with the answer of the Rust, or the refusal by the scope's rule, and the whole buffer after the call: how many bytes the job has,
 //! how many numbers are lent, the answer's word, 352 bytes of which the first are the job, and the words of the numbers after the call.
-use crate::words::at_most;
-use crate::words::differ;
-use crate::words::word;
+use recorded::words::at_most;
+use recorded::words::differ;
+use recorded::words::word;
 ghost use mathlib.Core.Path.{_≡_};
 ghost use lib.ListN.{length};
-ghost use Rattle.replay.specs.Words.{recordBytes};
+ghost use Rattle.recorded.specs.Words.{recordBytes};
 
 // Where the numbers begin, and how many there are at most.
 pub const NUMBERS: usize = 376;

@@ -1,4 +1,5 @@
-//! `compare PART SEED COUNT` runs a comparison; `compare record-PART SEED COUNT` writes a fixed list to standard output.
+//! `compare PART SEED COUNT` runs a comparison; `compare record-PART SEED COUNT` writes a fixed list to standard output
+//! (`| tools/lists.py put PART -`).
 //! Parts: fdlibm, solve, surface, patch, marching, crossing, trace, check (lists of all but fdlibm and patch), and trace-alone and
 //! check-alone, which run the oracle without the proved code; modes, what other floating-point modes of the host change; jobs, which writes
 //! job files. Ends with 1 where anything differs, and with 2 on bad usage.

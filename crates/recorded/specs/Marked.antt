@@ -3,8 +3,8 @@ use Prim.Native.Nat.{ℕ}
 use lib.Dec.{eqb}
 use lib.Ieee.{Float, binary64, toBits}
 use Rattle.loops.specs.Loop.{pick}
-use Rattle.replay.specs.declared.tally.Tally.{Tally}
-use Rattle.replay.specs.Tally.{countedOf}
+use Rattle.recorded.specs.declared.tally.Tally.{Tally}
+use Rattle.recorded.specs.Tally.{countedOf}
 
 -- the mark of an angle beyond reach, where a NaN is expected
 abbrev pub mark : ℕ

@@ -1,6 +1,13 @@
 //! What a replay counts, and the line that says it.
 ghost use mathlib.Core.Path.{_≡_};
-ghost use Rattle.replay.specs.Tally.{countedOf};
+ghost use Rattle.recorded.specs.Marked.{inReachOf, beyondOf};
+ghost use Rattle.recorded.specs.Tally.{countedOf};
+
+// Stands for StrictMath's answer where an angle is beyond reach: our sine and cosine are NaN there.
+const BEYOND: u64 = 0x7ff8_0000_0000_0001;
+
+// Every NaN has one pattern.
+const NAN: u64 = 0x7ff8_0000_0000_0000;
 
 // How many records were compared, how many of them differ, and which was the first that did (from 0).
 pub struct Tally {
@@ -44,6 +51,26 @@ pub fn counted(t: Tally, same: bool) -> Tally
             first: t.first,
         }
     }
+}
+
+// One record more, if its angle is in reach.
+pub fn in_reach(t: Tally, got: f64, expected: u64) -> Tally
+    ensures { λ r. ⌜ r ≡ inReachOf t got expected ⌝ }
+{
+    if expected == BEYOND {
+        return t;
+    }
+    counted(t, number::to_bits(got) == expected)
+}
+
+// One record more, if its angle is marked as beyond reach: a NaN is expected.
+pub fn beyond(t: Tally, got: f64, expected: u64) -> Tally
+    ensures { λ r. ⌜ r ≡ beyondOf t got expected ⌝ }
+{
+    if expected == BEYOND {
+        return counted(t, number::to_bits(got) == NAN);
+    }
+    t
 }
 
 // Writes the line: what was compared, how many, how many differ, and the first that does.

@@ -3,7 +3,7 @@ use Prim.Native.Nat.{_+_, _%_, _^_}
 use mathlib.Core.Bool.{Bool, true, false}
 use lib.Dec.{eqb}
 use Rattle.loops.specs.Loop.{pick}
-use Rattle.replay.specs.declared.tally.Tally.{Tally}
+use Rattle.recorded.specs.declared.tally.Tally.{Tally}
 
 -- one record more; the first that differs keeps its place in the list
 abbrev pub countedOf : Tally → Bool → Tally

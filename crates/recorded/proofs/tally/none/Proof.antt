@@ -1,6 +1,6 @@
 use mathlib.Core.Path.{refl}
-use Rattle.replay.proofs.tally.none.Statement.{statement}
-use Rattle.replay.proofs.tally.none.Tie as tie
+use Rattle.recorded.proofs.tally.none.Statement.{statement}
+use Rattle.recorded.proofs.tally.none.Tie as tie
 
 returns : tie.Need-returns
 returns c = refl

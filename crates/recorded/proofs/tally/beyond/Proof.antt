@@ -1,8 +1,8 @@
 use borrow.Author.Needs.{needs}
 use borrow.Author.Tests.{ne-eqb}
-use Rattle.replay.specs.Marked.{beyondOf}
-use Rattle.replay.proofs.strict_math.beyond.Statement.{statement}
-use Rattle.replay.proofs.strict_math.beyond.Tie as tie
+use Rattle.recorded.specs.Marked.{beyondOf}
+use Rattle.recorded.proofs.tally.beyond.Statement.{statement}
+use Rattle.recorded.proofs.tally.beyond.Tie as tie
 
 to-bits-requires : tie.Need-to-bits-requires
 to-bits-requires c κs = search needs

@@ -1,8 +1,8 @@
 use borrow.Author.Needs.{needs}
 use borrow.Author.Tests.{ne-eqb}
-use Rattle.replay.specs.Marked.{inReachOf}
-use Rattle.replay.proofs.strict_math.in_reach.Statement.{statement}
-use Rattle.replay.proofs.strict_math.in_reach.Tie as tie
+use Rattle.recorded.specs.Marked.{inReachOf}
+use Rattle.recorded.proofs.tally.in_reach.Statement.{statement}
+use Rattle.recorded.proofs.tally.in_reach.Tie as tie
 
 returns : tie.Need-returns
 unfolding inReachOf

@@ -6,10 +6,10 @@ use lib.ListN.{length}
 use borrow.Author.Needs.{needs}
 use borrow.Author.Tests.{le-leb, lt-leb}
 use denote.Ref.{now}
-use Rattle.replay.specs.Words.{wordAt}
+use Rattle.recorded.specs.Words.{wordAt}
 use Rattle.wire.specs.Wire.{eightAt}
-use Rattle.replay.proofs.words.word.Statement.{statement}
-use Rattle.replay.proofs.words.word.Tie as tie
+use Rattle.recorded.proofs.words.word.Statement.{statement}
+use Rattle.recorded.proofs.words.word.Tie as tie
 
 short : (s : List ℕ) (at : ℕ) → length s < at + 8 → 0 ≡ wordAt s at
 short s at h = rw (lt-leb (at + 8) (length s) h)

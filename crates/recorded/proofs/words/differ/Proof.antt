@@ -10,9 +10,9 @@ use borrow.Author.Needs.{needs}
 use native.Mathlib.Omega.{arith}
 use Rattle.loops.specs.Any.{anyIn}
 use Rattle.loops.proofs.Any.{any-again, any-leave, any-done}
-use Rattle.replay.specs.Words.{wordAt, differAt, differOf}
-use Rattle.replay.proofs.words.differ.Statement.{statement}
-use Rattle.replay.proofs.words.differ.Tie as tie
+use Rattle.recorded.specs.Words.{wordAt, differAt, differOf}
+use Rattle.recorded.proofs.words.differ.Statement.{statement}
+use Rattle.recorded.proofs.words.differ.Tie as tie
 
 unlike : (s : List ℕ) (t : List Float) (k b w : ℕ) → b ≡ toBits binary64 (getD t k nan) → w ≡ wordAt s (8 * k) → (b ≡ w → ⊥) → differAt s t k ≡ true
 unlike s t k b w e f h = rw (← e, ← f, ne-eqb b w h)

@@ -1,7 +1,7 @@
 //! A record and its 8-byte big-endian words.
 ghost use mathlib.Core.Path.{_≡_};
 ghost use Prim.Native.Nat.{_≤_};
-ghost use Rattle.replay.specs.Words.{wordAt, atMostOf, loadedOf, differOf};
+ghost use Rattle.recorded.specs.Words.{wordAt, atMostOf, loadedOf, differOf};
 
 // Room for a record of any kind: 960 bytes, and 185 numbers behind them.
 pub const RECORD: usize = 2440;

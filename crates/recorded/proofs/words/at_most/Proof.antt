@@ -1,7 +1,7 @@
 use borrow.Author.Tests.{lt-ltb, le-ltb}
 use native.Mathlib.Omega.{arith}
-use Rattle.replay.proofs.words.at_most.Statement.{statement}
-use Rattle.replay.proofs.words.at_most.Tie as tie
+use Rattle.recorded.proofs.words.at_most.Statement.{statement}
+use Rattle.recorded.proofs.words.at_most.Tie as tie
 
 returns : tie.Need-returns
 returns c = (rw (lt-ltb _ _ (c .if1 .taken)), omega arith)

@@ -5,9 +5,9 @@ use borrow.Author.Needs.{needs}
 use native.Mathlib.Omega.{arith}
 use Rattle.loops.specs.Loop.{ranged}
 use Rattle.loops.proofs.Loop.{ranged-again, ranged-done}
-use Rattle.replay.specs.Words.{loadAt, loadedOf}
-use Rattle.replay.proofs.words.load.Statement.{statement}
-use Rattle.replay.proofs.words.load.Tie as tie
+use Rattle.recorded.specs.Words.{loadAt, loadedOf}
+use Rattle.recorded.proofs.words.load.Statement.{statement}
+use Rattle.recorded.proofs.words.load.Tie as tie
 
 abbrev Inv-loop : tie.InvT-loop
 Inv-loop words numbers₀ k₀ k-end numbers k =

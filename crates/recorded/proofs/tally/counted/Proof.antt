@@ -1,6 +1,6 @@
 use borrow.Author.Tests.{eq-eqb, ne-eqb}
-use Rattle.replay.proofs.tally.counted.Statement.{statement}
-use Rattle.replay.proofs.tally.counted.Tie as tie
+use Rattle.recorded.proofs.tally.counted.Statement.{statement}
+use Rattle.recorded.proofs.tally.counted.Tie as tie
 
 wrapping-add-u64-requires : tie.Need-wrapping-add-u64-requires
 wrapping-add-u64-requires c κs = tt
