@@ -18,7 +18,11 @@ fn shift(s: Derivatives, d: Vector3D) -> Solution2
     let uu = su.dot(su);
     let uv = su.dot(sv);
     let vv = sv.dot(sv);
-    let solved = solve::cramer::solve_2x2([[uu, uv], [uv, vv]], [su.dot(d), sv.dot(d)], solve::SOLVER_TOL);
+    let solved = solve::cramer::solve_2x2(
+        [[uu, uv], [uv, vv]],
+        [su.dot(d), sv.dot(d)],
+        solve::SOLVER_TOL,
+    );
     match solved {
         Solved2::Solution(x) => x,
         Solved2::Singular => Solution2 { x0: 0.0, x1: 0.0 },
