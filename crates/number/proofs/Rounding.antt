@@ -2,7 +2,8 @@
 use mathlib.Core.Path.{_≡_, refl, sym, ap, _∙_, subst}
 use mathlib.Core.Logic.{_⊎_, inl, inr}
 use Prim.Native.Nat.{ℕ, zero, suc, _+_, _-_, _*_, _/_, _%_, _^_, _≤_, _<_, compare}
-use native.Mathlib.Nat.{le-trans, le-of-eq, eq-zero-or-pos, mul-one, mul-comm, mul-assoc, mul-left-comm, mul-le-mul-left, le-of-mul-le-mul-right, mul-pos, div-add-mod', mod-lt, le-div-iff-mul-le, mul-div-cancel, mul-mod-left, suc-mul}
+use native.Mathlib.Nat.{le-trans, le-of-eq, eq-zero-or-pos, mul-one, mul-comm, mul-assoc, mul-left-comm, mul-le-mul-left}
+use native.Mathlib.Nat.{le-of-mul-le-mul-right, mul-pos, div-add-mod', mod-lt, le-div-iff-mul-le, mul-div-cancel, mul-mod-left, suc-mul}
 use native.Mathlib.Omega.{arith}
 use lib.Pow.{pow-add, pow-pos}
 use lib.Dec.{lit<}

@@ -1,7 +1,8 @@
 -- A finite binary64 as a whole number of units, 2 ^ -1074: `mag` with the sign `neg?`. The operations in those numbers.
 use mathlib.Core.Path.{_≡_, refl, sym, ap, _∙_, subst}
 use Prim.Native.Nat.{ℕ, zero, suc, _+_, _-_, _*_, _/_, _%_, _^_, _≤_, _<_}
-use native.Mathlib.Nat.{le-of-eq, mul-comm, mul-assoc, mul-right-comm, mul-pos, mul-div-cancel, add-mul, mul-sub, mul-lt-mul-of-pos-right, lt-of-mul-lt-mul-right, mul-mul-mul-comm, lt-of-le-of-lt, lt-of-lt-of-le, lt-irrefl, zero-mul, zero-lt-suc}
+use native.Mathlib.Nat.{le-of-eq, mul-comm, mul-assoc, mul-right-comm, mul-pos, mul-div-cancel, add-mul, mul-sub}
+use native.Mathlib.Nat.{mul-lt-mul-of-pos-right, lt-of-mul-lt-mul-right, mul-mul-mul-comm, lt-of-le-of-lt, lt-of-lt-of-le, lt-irrefl, zero-mul, zero-lt-suc}
 use native.Mathlib.Omega.{arith}
 use mathlib.Core.Bool.{Bool, true, false, not, _&&_, Bool·beq, cond}
 use lib.Dec.{T, leb, ltb, eqb, ltb→lt, lt→ltb, nltb→le}
@@ -12,6 +13,7 @@ use lib.Ieee.Bits.{ofBits-toBits}
 use lib.Ieee.Exact.{HasValue, odd-sign}
 use lib.Ieee.Scale.{round-same, round-val, round-under, grid, finite}
 use Rattle.number.specs.Units.{unitsInOne, mag, neg?}
+use Rattle.number.proofs.Finite.{neg-finite}
 use Rattle.number.proofs.Symmetry.{round-neg}
 
 -- x is ±a units
@@ -75,17 +77,11 @@ value-neg nan s a c h = absurd h
 value-neg (inf t) s a c h = absurd h
 value-neg (fin t m e) s a c h = (ap not (h .0), h .1)
 
-finite-neg : (x : Float) → T (finite (neg x)) → T (finite x)
-unfolding neg
-finite-neg nan h = h
-finite-neg (inf t) h = h
-finite-neg (fin t m e) h = tt
-
 pub round-is-grid : (s : Bool) (a c : ℕ) → T (finite (round binary64 s a c)) → Is (round binary64 s a c) s (grid binary64 a c)
 round-is-grid false a c h = round-val binary64 a c (round-under binary64 a c h)
 round-is-grid true a c h =
     let x = round binary64 false a c in
-    let k = finite-neg x (rw (round-neg false a c) at h) in
+    let k = neg-finite x (rw (round-neg false a c) at h) in
     rw (round-neg false a c) (value-neg x false (grid binary64 a c) unitsInOne (round-val binary64 a c (round-under binary64 a c k)))
 
 -- ---- sums
@@ -145,10 +141,7 @@ add-is (fin u m e) (fin v n d) s t a b p q =
     (cross n (up d) (down e) (down d) b unitsInOne (q .1) ∙ ap (λ (k : ℕ). b * k) (mul-comm (down d) (down e)))
 
 pub neg-is : (x : Float) (s : Bool) (a : ℕ) → Is x s a → Is (neg x) (not s) a
-unfolding neg
-neg-is nan s a p = absurd p
-neg-is (inf u) s a p = absurd p
-neg-is (fin u m e) s a p = (ap not (p .0), p .1)
+neg-is x s a p = value-neg x s a unitsInOne p
 
 pub sub-is : (x y : Float) (s t : Bool) (a b : ℕ) → Is x s a → Is y t b → sub binary64 x y ≡ sum binary64 s a (not t) b unitsInOne
 unfolding sub

@@ -2,7 +2,8 @@
 use mathlib.Core.Path.{_≡_, refl, sym, ap, _∙_, subst}
 use mathlib.Core.Logic.{_⊎_, inl, inr}
 use Prim.Native.Nat.{ℕ, zero, suc, _+_, _-_, _*_, _/_, _%_, _^_, _≤_, _<_, min}
-use native.Mathlib.Nat.{mul-comm, mul-div-mul-right, div-eq-of-lt, le-div-iff-mul-le, min-eq-left, min-eq-right, min-le-right, le-trans, le-of-eq, mul-le-mul-right, lt-of-lt-of-le, eq-or-lt-of-le, mod-lt}
+use native.Mathlib.Nat.{mul-comm, mul-div-mul-right, div-eq-of-lt, le-div-iff-mul-le, min-eq-left, min-eq-right, min-le-right}
+use native.Mathlib.Nat.{le-trans, le-of-eq, mul-le-mul-right, lt-of-lt-of-le, eq-or-lt-of-le, mod-lt}
 use native.Mathlib.Omega.{arith}
 use mathlib.Core.Bool.{Bool, true, false, not, cond}
 use lib.Dec.{T, leb, eqb, lit≤}

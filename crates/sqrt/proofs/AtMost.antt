@@ -3,7 +3,8 @@
 use mathlib.Core.Path.{_≡_, refl, sym, ap, _∙_, subst}
 use mathlib.Core.Logic.{_⊎_, inl, inr}
 use Prim.Native.Nat.{ℕ, _+_, _-_, _*_, _/_, _%_, _^_, _≤_, _<_, zero-le, compare}
-use native.Mathlib.Nat.{le-refl, le-trans, le-of-eq, le-of-suc-le-suc, le-add-right, lt-of-not-le, lt-of-lt-of-le, not-le-of-lt, mul-pos, mul-one, mul-add, mul-le-mul, mul-le-mul-right, le-of-mul-le-mul-right, le-of-mul-le-mul-left, add-le-add}
+use native.Mathlib.Nat.{le-refl, le-trans, le-of-eq, le-of-suc-le-suc, le-add-right, lt-of-not-le, lt-of-lt-of-le, not-le-of-lt}
+use native.Mathlib.Nat.{mul-pos, mul-one, mul-add, mul-le-mul, mul-le-mul-right, le-of-mul-le-mul-right, le-of-mul-le-mul-left, add-le-add}
 use native.Mathlib.Omega.{arith}
 use mathlib.Core.Bool.{Bool, true, false}
 use lib.Dec.{T, lit≤, lit<}

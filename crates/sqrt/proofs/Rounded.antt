@@ -1,7 +1,8 @@
 -- `roundRoot` of M * 4 ^ j, where M's root has 53 digits: the nearest whole number to M's root, with j zeros after it.
 use mathlib.Core.Path.{_≡_, refl, sym, ap, _∙_, subst}
 use Prim.Native.Nat.{ℕ, suc, _+_, _-_, _*_, _/_, _^_, _≤_, _<_, compare, Ordering}
-use native.Mathlib.Nat.{le-trans, le-of-eq, lt-of-lt-of-le, lt-of-le-of-lt, mul-assoc, mul-le-mul-right, mul-lt-mul-of-pos-right, mul-pos, div-eq-of-lt-le, mul-mul-mul-comm, le-of-suc-le-suc, lt-of-not-le, add-sub-of-le}
+use native.Mathlib.Nat.{le-trans, le-of-eq, lt-of-lt-of-le, lt-of-le-of-lt, mul-assoc, mul-le-mul-right, mul-lt-mul-of-pos-right}
+use native.Mathlib.Nat.{mul-pos, div-eq-of-lt-le, mul-mul-mul-comm, le-of-suc-le-suc, lt-of-not-le, add-sub-of-le}
 use native.Mathlib.Omega.{arith}
 use native.Mathlib.Numerals.{add-one}
 use mathlib.Core.Bool.{false}
