@@ -1,5 +1,5 @@
 -- What a job file says, and when it is refused by 19. Definitions only.
-use mathlib.Core.Bool.{Bool, true, false}
+use mathlib.Core.Bool.{Bool, true, _&&_, _||_}
 use mathlib.Core.List.{List}
 use Prim.Native.Nat.{ℕ, _+_}
 use lib.Dec.{eqb, ltb}
@@ -22,7 +22,7 @@ use Rattle.job.specs.declared.file.SurfaceRead.{SurfaceRead}
 use Rattle.job.specs.declared.file.SurfaceRead.the-variants as surface
 use Rattle.job.specs.declared.file.JobRead.{JobRead}
 use Rattle.job.specs.declared.file.JobRead.the-variants.{Whole, Refused}
-use Rattle.job.specs.Layout.{marksPlace, framePlace, firstSizePlace, secondSizePlace, uWindowPlace, vWindowPlace, surfaceBytes}
+use Rattle.job.specs.Layout.{marksPlace, bothMarks, framePlace, firstSizePlace, secondSizePlace, uWindowPlace, vWindowPlace, surfaceBytes}
 use Rattle.job.specs.Layout.{versionPlace, surfaceAPlace, surfaceBPlace, confusionPlace, angularPlace, guessPlace, capPlace, jobBytes, following}
 
 -- ---- "12 frame numbers (origin, x, y, z direction)"
@@ -50,7 +50,7 @@ surfaceOf kind f first second =
 
 -- "a mark byte (1 for u, 2 for v, added)"
 unfoldable pub marked : ℕ → ℕ → Bool
-marked marks mark = pick (eqb marks mark) true (eqb marks 3)
+marked marks mark = eqb marks mark || eqb marks bothMarks
 
 -- "window low and high"
 unfoldable pub windowAt : List ℕ → ℕ → Bool → Window
@@ -70,7 +70,7 @@ patchAt s at kind marks =
 -- the bits of the sizes that a kind does not use are all clear
 unfoldable pub unusedClear : ℕ → ℕ → ℕ → Bool
 unusedClear kind first second =
-    pick (eqb kind 0) (pick (eqb first 0) (eqb second 0) false)
+    pick (eqb kind 0) (eqb first 0 && eqb second 0)
     (pick (eqb kind 1) (eqb second 0)
     (pick (eqb kind 3) (eqb second 0) true))
 
@@ -78,7 +78,7 @@ unusedClear kind first second =
 unfoldable pub surfaceAt : List ℕ → ℕ → SurfaceRead
 surfaceAt s at =
     pick (ltb 4 (byteAt s at)) (surface.Refused JobFile)
-    (pick (ltb 3 (byteAt s (at + marksPlace))) (surface.Refused JobFile)
+    (pick (ltb bothMarks (byteAt s (at + marksPlace))) (surface.Refused JobFile)
     (pick (unusedClear (byteAt s at) (eightAt s (at + firstSizePlace)) (eightAt s (at + secondSizePlace)))
     (surface.Whole (patchAt s at (byteAt s at) (byteAt s (at + marksPlace))))
     (surface.Refused JobFile)))

@@ -7,6 +7,10 @@ use Prim.Native.Nat.{ℕ}
 abbrev pub marksPlace : ℕ
 marksPlace = 1
 
+-- "1 for u, 2 for v, added": the greatest
+abbrev pub bothMarks : ℕ
+bothMarks = 3
+
 -- the 12 frame numbers
 abbrev pub framePlace : ℕ
 framePlace = 2

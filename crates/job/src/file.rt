@@ -11,6 +11,7 @@ use refusal::Refusal;
 ghost use mathlib.Core.Path.{_≡_};
 ghost use Prim.Native.Nat.{_+_, _≤_};
 ghost use lib.ListN.{length};
+ghost use Rattle.job.specs.Layout.{surfaceBytes, jobBytes};
 ghost use Rattle.job.specs.File.{originAt, directionAt, frameAt, surfaceOf, marked, windowAt, patchAt, unusedClear, surfaceAt, surfaceFile, guessAt, jobAt, jobOf};
 
 // What a job file asks for: the line where A and B meet. The parametric tolerance isn't read.
@@ -88,7 +89,7 @@ fn surface_of(kind: u64, frame: Frame3D, first: f64, second: f64) -> Surface
 fn has_mark(marks: u64, one: u64) -> bool
     ensures { λ r. ⌜ r ≡ marked marks one ⌝ }
 {
-    if marks == one { true } else { marks == 3 }
+    marks == one || marks == layout::BOTH_MARKS
 }
 
 fn window(bytes: &[u8], at: usize, turn: bool) -> Window
@@ -102,7 +103,7 @@ fn window(bytes: &[u8], at: usize, turn: bool) -> Window
 
 // The surface from `at` on with its windows and marks, its kind and marks being known.
 fn patch_at(bytes: &[u8], at: usize, kind: u64, marks: u64) -> Patch
-    requires { ⌜ at + 146 ≤ length (now bytes) ⌝ }
+    requires { ⌜ at + surfaceBytes ≤ length (now bytes) ⌝ }
     ensures { λ r. ⌜ r ≡ patchAt (now (bytes .entry)) at kind marks ⌝ }
 {
     let frame = frame(bytes, at + layout::FRAME);
@@ -119,10 +120,7 @@ fn unused_clear(kind: u64, first: u64, second: u64) -> bool
     ensures { λ r. ⌜ r ≡ unusedClear kind first second ⌝ }
 {
     if kind == 0 {
-        if first == 0 {
-            return second == 0;
-        }
-        return false;
+        return first == 0 && second == 0;
     }
     if kind == 1 {
         return second == 0;
@@ -135,7 +133,7 @@ fn unused_clear(kind: u64, first: u64, second: u64) -> bool
 
 // The surface whose 146 bytes stand from `at` on, or 19.
 fn surface_at(bytes: &[u8], at: usize) -> SurfaceRead
-    requires { ⌜ at + 146 ≤ length (now bytes) ⌝ }
+    requires { ⌜ at + surfaceBytes ≤ length (now bytes) ⌝ }
     ensures { λ r. ⌜ r ≡ surfaceAt (now (bytes .entry)) at ⌝ }
 {
     let kind = wire::one(bytes, at);
@@ -145,7 +143,7 @@ fn surface_at(bytes: &[u8], at: usize) -> SurfaceRead
     if 4 < kind {
         return SurfaceRead::Refused(Refusal::JobFile);
     }
-    if 3 < marks {
+    if layout::BOTH_MARKS < marks {
         return SurfaceRead::Refused(Refusal::JobFile);
     }
     if !unused_clear(kind, first, second) {
@@ -177,7 +175,7 @@ fn guess_at(bytes: &[u8], at: usize) -> Parameters
 
 // The job of two surfaces that are read already.
 fn job_at(bytes: &[u8], a: Patch, b: Patch) -> Job
-    requires { ⌜ 347 ≤ length (now bytes) ⌝ }
+    requires { ⌜ jobBytes ≤ length (now bytes) ⌝ }
     ensures { λ r. ⌜ r ≡ jobAt (now (bytes .entry)) a b ⌝ }
 {
     let confusion = wire::number(bytes, layout::CONFUSION);

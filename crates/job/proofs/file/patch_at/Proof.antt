@@ -44,7 +44,12 @@ window-requires-2 c κs = search needs
 
 returns : tie.Need-returns
 unfolding patchAt
-returns c = rw (c .window2 .ensures, c .before .has-mark2 .ensures, c .before .before .window .ensures, c .before .before .before .has-mark .ensures, c .before .before .before .before .surface-of .ensures, c .before .before .before .before .before .number2 .ensures, c .before .before .before .before .before .before .number .ensures, c .before .before .before .before .before .before .before .frame .ensures)
+returns c =
+    let w = c .before .before in
+    let s = w .before .before in
+    let n = s .before .before in
+    rw (c .window2 .ensures, c .before .has-mark2 .ensures, w .window .ensures, w .before .has-mark .ensures)
+    (rw (s .surface-of .ensures, s .before .number2 .ensures, n .number .ensures, n .before .frame .ensures))
 
 pub patch-at-spec : {M : Type 1} → statement M
 patch-at-spec =

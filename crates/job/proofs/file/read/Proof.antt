@@ -39,7 +39,8 @@ unfolding jobOf
 returns-4 c =
     let c2 = c .before .before in let c3 = c2 .before in let c4 = c3 .before in let c5 = c4 .before in let c6 = c5 .before in
     let c7 = c6 .before in
-    rw (eq-eqb _ jobBytes (c7 .if1 .left), ← c6 .four .ensures .0, eq-eqb _ following (c5 .if2 .left), ← c4 .one .ensures .0, eq-eqb _ 1 (c3 .if3 .left), ← c2 .surface-at .ensures, c .enum-told .given .1)
+    rw (eq-eqb _ jobBytes (c7 .if1 .left), ← c6 .four .ensures .0, eq-eqb _ following (c5 .if2 .left))
+    (rw (← c4 .one .ensures .0, eq-eqb _ 1 (c3 .if3 .left), ← c2 .surface-at .ensures, c .enum-told .given .1))
 
 surface-at-requires-2 : tie.Need-surface-at-requires-2
 surface-at-requires-2 c κs = search needs
@@ -55,7 +56,8 @@ unfolding jobOf
 returns-5 c =
     let c2 = c .before .before in let c4 = c2 .before .before in let c6 = c4 .before .before in let c7 = c6 .before in let c8 = c7 .before in
     let c9 = c8 .before in let c10 = c9 .before in let c11 = c10 .before in
-    rw (eq-eqb _ jobBytes (c11 .if1 .left), ← c10 .four .ensures .0, eq-eqb _ following (c9 .if2 .left), ← c8 .one .ensures .0, eq-eqb _ 1 (c7 .if3 .left), ← c6 .surface-at .ensures, c4 .a .given .1, ← c2 .surface-at2 .ensures, c .enum-told2 .given .1)
+    rw (eq-eqb _ jobBytes (c11 .if1 .left), ← c10 .four .ensures .0, eq-eqb _ following (c9 .if2 .left))
+    (rw (← c8 .one .ensures .0, eq-eqb _ 1 (c7 .if3 .left), ← c6 .surface-at .ensures, c4 .a .given .1, ← c2 .surface-at2 .ensures, c .enum-told2 .given .1))
 
 job-at-requires : tie.Need-job-at-requires
 job-at-requires c κs = search needs
@@ -65,7 +67,8 @@ unfolding jobOf
 returns-6 c =
     let c2 = c .before .before in let c4 = c2 .before .before in let c6 = c4 .before .before in let c8 = c6 .before .before in
     let c9 = c8 .before in let c10 = c9 .before in let c11 = c10 .before in let c12 = c11 .before in let c13 = c12 .before in
-    rw (eq-eqb _ jobBytes (c13 .if1 .left), ← c12 .four .ensures .0, eq-eqb _ following (c11 .if2 .left), ← c10 .one .ensures .0, eq-eqb _ 1 (c9 .if3 .left), ← c8 .surface-at .ensures, c6 .a .given .1, ← c4 .surface-at2 .ensures, c2 .b .given .1, ← c .job-at .ensures)
+    rw (eq-eqb _ jobBytes (c13 .if1 .left), ← c12 .four .ensures .0, eq-eqb _ following (c11 .if2 .left))
+    (rw (← c10 .one .ensures .0, eq-eqb _ 1 (c9 .if3 .left), ← c8 .surface-at .ensures, c6 .a .given .1, ← c4 .surface-at2 .ensures, c2 .b .given .1, ← c .job-at .ensures))
 
 pub read-spec : {M : Type 1} → statement M
 read-spec =
