@@ -1,4 +1,4 @@
--- Whatever the surfaces and the guess, under a fit tolerance every meeting and every landing is good.
+-- Whatever the surfaces and the guess, under a fit tolerance every meeting and every landing is an intersection.
 use mathlib.Core.Path.{_≡_, refl, ap, _∙_, subst}
 use mathlib.Core.Bool.{Bool, true, false, _&&_}
 use Prim.Native.Nat.{ℕ}
@@ -30,7 +30,7 @@ use Rattle.meeting.specs.declared.correction.Target.{Target}
 use Rattle.meeting.specs.declared.correction.Target.the-variants.{Free, Plane, Pin}
 use Rattle.meeting.specs.declared.correction.Residual.{Residual}
 use Rattle.meeting.specs.declared.correction.Correction.{Correction}
-use Rattle.meeting.specs.declared.correction.Correction.the-variants as step
+use Rattle.meeting.specs.declared.correction.Correction.the-variants as correction
 use Rattle.meeting.specs.declared.newton.Met.{Met}
 use Rattle.meeting.specs.declared.newton.Met.the-variants.{At, Nothing}
 use Rattle.meeting.specs.declared.newton.Trial.{Trial}
@@ -39,7 +39,8 @@ use Rattle.meeting.specs.declared.newton.Round.the-variants as round
 use Rattle.meeting.specs.Parameters.{parameterOf, withParameter}
 use Rattle.patch.specs.Located.{pointA, pointB}
 use Rattle.meeting.specs.Correction.{residualOf, correctionOf, allShifted, shiftedOf}
-use Rattle.meeting.specs.Newton.{nearOf, trialBody, noTrial, trialsOf, lastTest, afterTrials, afterSolve, newtonRound, goingOn, roundBody, newtonOf, meetOf, meetInPlaneOf, landOf}
+use Rattle.meeting.specs.Newton.{nearOf, trialBody, mostTrials, noTrial, trialsOf, lastTest, afterTrials, afterSolve, newtonRound}
+use Rattle.meeting.specs.Newton.{mostRounds, goingOn, roundBody, newtonOf, meetOf, meetInPlaneOf, landOf}
 use Rattle.meeting.specs.Intersection.{IsIntersection, windowOf}
 
 -- ---- a state of Newton's method holds the difference of the two points at its parameters, and what every move of them keeps
@@ -79,10 +80,10 @@ module _ (a b : Patch) (target : Target) (confusion : Float) (tight : T (tenth �
 
   trials-own : (s : Residual) (d : Parameters) → Own s → TrialOwn (trialsOf a b target s d)
   unfolding trialsOf TrialOwn
-  trials-own s d o = searched-keeps (trialBody a b target s d) noTrial (λ scale. T true) TrialOwn turn (λ scale h. tt) 0 12 _ tt
+  trials-own s d o = searched-keeps (trialBody a b target s d) noTrial (λ scale. T true) TrialOwn body (λ scale h. tt) 0 mostTrials _ tt
     where
-      turn : (i : ℕ) (scale : Float) → T true → Kept (λ scale. T true) TrialOwn (trialBody a b target s d i scale)
-      turn i scale h =
+      body : (i : ℕ) (scale : Float) → T true → Kept (λ scale. T true) TrialOwn (trialBody a b target s d i scale)
+      body i scale h =
           let y = withinBounds a b (shiftedOf target (s .x) d scale) in
           go (residualOf a b target y .merit <? s .merit) (residualOf a b target y) (residual-own y (moved (s .x) d scale (o .1)))
         where
@@ -107,22 +108,24 @@ module _ (a b : Patch) (target : Target) (confusion : Float) (tight : T (tenth �
   after-trials s o (trial.Better t) h = h
   after-trials s o trial.Nothing h = last-good s o
 
-  after-step : (s : Residual) → Own s → (r : Correction) → KeptOwn (goingOn (afterSolve a b target confusion s r))
+  after-correction : (s : Residual) → Own s → (r : Correction) → KeptOwn (goingOn (afterSolve a b target confusion s r))
   unfolding KeptOwn
-  after-step s o (step.By d) = after-trials s o (trialsOf a b target s d) (trials-own s d o)
-  after-step s o step.Singular = tt
+  after-correction s o (correction.By d) = after-trials s o (trialsOf a b target s d) (trials-own s d o)
+  after-correction s o correction.Singular = tt
 
   round-good : (i : ℕ) (s : Residual) → Own s → KeptOwn (roundBody a b target confusion i s)
   unfolding newtonRound KeptOwn
   round-good i s o = go (nearOf a b s (tenth ⊗ confusion)) (λ t. near-good s (tenth ⊗ confusion) o tight t)
     where
-      go : (near : Bool) → (T near → IsIntersection a b confusion (s .x) × H (s .x)) → KeptOwn (goingOn (pick near (round.End (At (s .x))) (afterSolve a b target confusion s (correctionOf a b target s))))
+      go : (near : Bool) → (T near → IsIntersection a b confusion (s .x) × H (s .x))
+          → KeptOwn (goingOn (pick near (round.End (At (s .x))) (afterSolve a b target confusion s (correctionOf a b target s))))
       go true g = g tt
-      go false g = after-step s o (correctionOf a b target s)
+      go false g = after-correction s o (correctionOf a b target s)
 
   newton-holds : (x : Parameters) → H x → Holds (newtonOf a b target x confusion)
   unfolding newtonOf KeptOwn
-  newton-holds x h = searched-keeps (roundBody a b target confusion) (lastTest a b confusion) Own Holds round-good (λ s o. last-good s o) 0 32 (residualOf a b target x) (residual-own x h)
+  newton-holds x h =
+      searched-keeps (roundBody a b target confusion) (lastTest a b confusion) Own Holds round-good (λ s o. last-good s o) 0 mostRounds _ (residual-own x h)
 
   newton-has : (x y : Parameters) → H x → newtonOf a b target x confusion ≡ At y → IsIntersection a b confusion y × H y
   unfolding Holds
@@ -198,7 +201,9 @@ module _ (a b : Patch) (tol : Tolerance) (fit : T (toleranceFit tol)) where
   unfolding landOf shiftedOf
   land-pinned x y pin value w e =
       newton-has a b (Pin pin) c tight self (λ (z : Parameters). parameterOf z pin ≡ value)
-      (λ z d scale h. bounded-parameter a b (withParameter (allShifted z d scale) pin (parameterOf z pin)) pin ∙ ap (boundedOf (windowOf a b pin)) (with-parameter (allShifted z d scale) pin (parameterOf z pin) ∙ h) ∙ w)
+      (λ z d scale h.
+      let y = allShifted z d scale in
+      bounded-parameter a b (withParameter y pin (parameterOf z pin)) pin ∙ ap (boundedOf (windowOf a b pin)) (with-parameter y pin (parameterOf z pin) ∙ h) ∙ w)
       (withParameter (withinBounds a b x) pin value) y (with-parameter (withinBounds a b x) pin value) e .1
 
   -- And at good parameters all six coordinates are finite.

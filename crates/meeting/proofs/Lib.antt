@@ -1,4 +1,3 @@
-pub mod Rounds
 pub mod Symmetric
 pub mod Intersection
 pub mod Evaluated

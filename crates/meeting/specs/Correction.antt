@@ -1,4 +1,4 @@
--- One step of Newton's method in `meet` and `land` of marching.rs. Definitions only.
+-- A correction of Newton's method in `meet` and `land` of marching.rs. Definitions only.
 use mathlib.Core.List.{List, [], _∷_}
 use Prim.Native.Nat.{ℕ}
 use lib.Dec.{ltb}
@@ -66,7 +66,7 @@ dot4Of p0 p1 p2 p3 q0 q1 q2 q3 = sumStart ⊕ p0 ⊗ q0 ⊕ p1 ⊗ q1 ⊕ p2 ⊗
 abbrev pub rowDot : Columns → (Vector3D → Float) → (Vector3D → Float) → Float
 rowDot c p q = dot4Of (p (c .c0)) (p (c .c1)) (p (c .c2)) (p (c .c3)) (q (c .c0)) (q (c .c1)) (q (c .c2)) (q (c .c3))
 
--- J J^T of the minimum-norm step: `rows.map(|p| rows.map(|q| dot(p, q)))`
+-- J J^T of the minimum-norm correction: `rows.map(|p| rows.map(|q| dot(p, q)))`
 unfoldable pub normalMatrix : Columns → List (List Float)
 normalMatrix c =
     let x : Vector3D → Float = λ v. v .x in
@@ -81,18 +81,18 @@ normalMatrix c =
 abbrev pub minus : Vector3D → List Float
 minus f = neg (f .x) ∷ neg (f .y) ∷ neg (f .z) ∷ []
 
--- the Rust's minimum-norm step `J^T y` with `J J^T y = -f`
+-- the Rust's minimum-norm step, `J^T y` with `J J^T y = -f`
 abbrev pub minimumNorm : Columns → Solved3 → Correction
 minimumNorm c solved3.Singular = Singular
 minimumNorm c (solved3.Solution s) =
     let y = vectorOf (s .x0) (s .x1) (s .x2) in
     By (record { u1 = dotOf (c .c0) y; v1 = dotOf (c .c1) y; u2 = dotOf (c .c2) y; v2 = dotOf (c .c3) y })
 
--- the step without a plane and without a pin, solved with "tol is 1e-12 throughout"
+-- the correction without a plane and without a pin, solved with "tol is 1e-12 throughout"
 unfoldable pub freeCorrection : Columns → Vector3D → Correction
 freeCorrection c f = minimumNorm c (solve3Of (normalMatrix c) (minus f) solverTol)
 
--- the solution of four unknowns as a step
+-- the solution of four unknowns as a correction
 abbrev pub byFour : Solved4 → Correction
 byFour solved4.Singular = Singular
 byFour (solved4.Solution d) = By (record { u1 = d .x0; v1 = d .x1; u2 = d .x2; v2 = d .x3 })
@@ -127,7 +127,7 @@ unfoldable pub placedOf : ℕ → Solution3 → Parameters
 placedOf pin d =
     withParameter (withParameter (withParameter (record { u1 = bits 0; v1 = bits 0; u2 = bits 0; v2 = bits 0 }) (freeOf pin 0) (d .x0)) (freeOf pin 1) (d .x1)) (freeOf pin 2) (d .x2)
 
--- the solution of three unknowns as a step
+-- the solution of three unknowns as a correction
 abbrev pub byThree : ℕ → Solved3 → Correction
 byThree pin solved3.Singular = Singular
 byThree pin (solved3.Solution d) = By (placedOf pin d)
@@ -140,7 +140,7 @@ freeRows p q s = (p .x ∷ q .x ∷ s .x ∷ []) ∷ (p .y ∷ q .y ∷ s .y ∷
 unfoldable pub pinCorrection : Columns → ℕ → Vector3D → Correction
 pinCorrection c pin f = byThree pin (solve3Of (freeRows (columnOf c (freeOf pin 0)) (columnOf c (freeOf pin 1)) (columnOf c (freeOf pin 2))) (minus f) solverTol)
 
--- the step for what is solved beside the meeting
+-- the correction for what is solved beside the meeting
 unfoldable pub correctionOf : Patch → Patch → Target → Residual → Correction
 correctionOf a b Free s = freeCorrection (columnsOf a b (s .x)) (s .f)
 correctionOf a b (Plane origin normal) s = planeCorrection (columnsOf a b (s .x)) normal (s .f) (s .r)

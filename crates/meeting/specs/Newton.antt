@@ -16,7 +16,7 @@ use Rattle.meeting.specs.declared.correction.Target.{Target}
 use Rattle.meeting.specs.declared.correction.Target.the-variants.{Free, Plane, Pin}
 use Rattle.meeting.specs.declared.correction.Residual.{Residual}
 use Rattle.meeting.specs.declared.correction.Correction.{Correction}
-use Rattle.meeting.specs.declared.correction.Correction.the-variants as step
+use Rattle.meeting.specs.declared.correction.Correction.the-variants as correction
 use Rattle.meeting.specs.declared.newton.Met.{Met}
 use Rattle.meeting.specs.declared.newton.Met.the-variants.{At, Nothing}
 use Rattle.meeting.specs.declared.newton.Trial.{Trial}
@@ -36,19 +36,23 @@ nearOf a b s bound = magnitudeOf (s .f) ≤? bound && (absOf (s .r) ≤? bound &
 abbrev pub trialAt : Residual → Residual → Float → Flow Float Trial
 trialAt s t scale = pick (t .merit <? s .merit) (out (trial.Better t)) (on (scale ⊗ half))
 
--- a trial: the step scaled, clamped to the windows, its residual
+-- a trial: the correction scaled, clamped to the windows, its residual
 abbrev pub trialBody : Patch → Patch → Target → Residual → Parameters → ℕ → Float → Flow Float Trial
 trialBody a b target s d i scale = trialAt s (residualOf a b target (withinBounds a b (shiftedOf target (s .x) d scale))) scale
 
--- the 12 trials are spent, none was better
+-- "up to 12 trials"
+abbrev pub mostTrials : ℕ
+mostTrials = 12
+
+-- the trials are spent, none was better
 abbrev pub noTrial : Float → Trial
 noTrial scale = trial.Nothing
 
 -- the trials from the i-th on
 abbrev pub trialsFrom : Patch → Patch → Target → Residual → Parameters → ℕ → Float → Trial
-trialsFrom a b target s d i scale = searched (trialBody a b target s d) noTrial i 12 (on scale)
+trialsFrom a b target s d i scale = searched (trialBody a b target s d) noTrial i mostTrials (on scale)
 
--- all 12, from the scale 1.0
+-- all trials, from the scale 1.0
 unfoldable pub trialsOf : Patch → Patch → Target → Residual → Parameters → Trial
 trialsOf a b target s d = trialsFrom a b target s d 0 one
 
@@ -65,30 +69,34 @@ afterTrials a b confusion s trial.Nothing = round.End (lastTest a b confusion s)
 
 -- "A failed solve refuses, even where that last test would pass."
 abbrev pub afterSolve : Patch → Patch → Target → Float → Residual → Correction → Round
-afterSolve a b target confusion s (step.By d) = afterTrials a b confusion s (trialsOf a b target s d)
-afterSolve a b target confusion s step.Singular = round.End Nothing
+afterSolve a b target confusion s (correction.By d) = afterTrials a b confusion s (trialsOf a b target s d)
+afterSolve a b target confusion s correction.Singular = round.End Nothing
 
 -- "accepted at once when gap and plane offset are at most a tenth of confusion; else a solve, and up to 12 trials"
 unfoldable pub newtonRound : Patch → Patch → Target → Float → Residual → Round
 newtonRound a b target confusion s =
     pick (nearOf a b s (tenth ⊗ confusion)) (round.End (At (s .x))) (afterSolve a b target confusion s (correctionOf a b target s))
 
--- ---- "at most 32 rounds"
+-- ---- the rounds
+
+-- "at most 32 rounds"
+abbrev pub mostRounds : ℕ
+mostRounds = 32
 
 -- what a round says to the loop
 abbrev pub goingOn : Round → Flow Residual Met
 goingOn (round.Next t) = on t
 goingOn (round.End m) = out m
 
--- one turn of the loop
+-- one iteration
 abbrev pub roundBody : Patch → Patch → Target → Float → ℕ → Residual → Flow Residual Met
 roundBody a b target confusion i s = goingOn (newtonRound a b target confusion s)
 
 -- the rounds from the i-th on, then the last test
 abbrev pub roundsFrom : Patch → Patch → Target → Float → ℕ → Residual → Met
-roundsFrom a b target confusion i s = searched (roundBody a b target confusion) (lastTest a b confusion) i 32 (on s)
+roundsFrom a b target confusion i s = searched (roundBody a b target confusion) (lastTest a b confusion) i mostRounds (on s)
 
--- all 32, from the residual at x
+-- all rounds, from the residual at x
 unfoldable pub newtonOf : Patch → Patch → Target → Parameters → Float → Met
 newtonOf a b target x confusion = roundsFrom a b target confusion 0 (residualOf a b target x)
 

@@ -1,4 +1,4 @@
-// One step of Newton's method: the residual at the parameters, and the change of the parameters that a linear system gives.
+// A correction of Newton's method: the residual at the parameters, and the change of the parameters that a linear system gives.
 use crate::parameters::parameter;
 use crate::parameters::with_parameter;
 use geometry::Point3D;
@@ -10,13 +10,14 @@ use solve::Solved3;
 use solve::Solved4;
 ghost use mathlib.Core.Path.{_≡_};
 ghost use Prim.Native.Nat.{_<_};
-ghost use Rattle.meeting.specs.Correction.{offsetOf, residualOf, columnsOf, dot4Of, normalMatrix, freeCorrection, planeCorrection, columnOf, freeOf, placedOf, pinCorrection, correctionOf, shiftedOf};
+ghost use Rattle.meeting.specs.Correction.{offsetOf, residualOf, columnsOf, dot4Of, normalMatrix, freeCorrection, planeCorrection};
+ghost use Rattle.meeting.specs.Correction.{columnOf, freeOf, placedOf, pinCorrection, correctionOf, shiftedOf};
 
-// What is solved beside S1(u1, v1) = S2(u2, v2): nothing (the minimum-norm step), a plane through a point with a normal, or a
+// What is solved beside S1(u1, v1) = S2(u2, v2): nothing (the minimum-norm correction), a plane through a point with a normal, or a
 // parameter held at its value.
 pub enum Target {
     Free,
-    Plane(Point3D, Vector3D),
+    Plane { origin: Point3D, normal: Vector3D },
     Pin(usize),
 }
 
@@ -48,7 +49,7 @@ fn offset(target: Target, p: Point3D) -> f64
 {
     match target {
         Target::Free => 0.0,
-        Target::Plane(origin, normal) => p.sub(origin).dot(normal),
+        Target::Plane { origin, normal } => p.sub(origin).dot(normal),
         Target::Pin(_) => 0.0,
     }
 }
@@ -108,7 +109,7 @@ fn normal_matrix(c: Columns) -> [[f64; 3]; 3]
     [[xx, xy, xz], [xy, yy, yz], [xz, yz, zz]]
 }
 
-// The minimum-norm step J^T y with J J^T y = -f.
+// The minimum-norm correction J^T y with J J^T y = -f.
 fn free_correction(c: Columns, f: Vector3D) -> Correction
     ensures { λ r. ⌜ r ≡ freeCorrection c f ⌝ }
 {
@@ -132,7 +133,7 @@ fn free_correction(c: Columns, f: Vector3D) -> Correction
     }
 }
 
-// The step that also meets the plane.
+// The correction that also meets the plane.
 fn plane_correction(c: Columns, normal: Vector3D, f: Vector3D, r: f64) -> Correction
     ensures { λ k. ⌜ k ≡ planeCorrection c normal f r ⌝ }
 {
@@ -203,7 +204,7 @@ fn placed(pin: usize, d: Solution3) -> Parameters
     with_parameter(second, free(pin, 2), d.x2)
 }
 
-// The step of the three free parameters.
+// The correction of the three free parameters.
 fn pin_correction(c: Columns, pin: usize, f: Vector3D) -> Correction
     ensures { λ r. ⌜ r ≡ pinCorrection c pin f ⌝ }
 {
@@ -227,7 +228,7 @@ pub(crate) fn newton_correction(a: Patch, b: Patch, target: Target, s: Residual)
     let c = jacobian(a, b, x);
     match target {
         Target::Free => free_correction(c, f),
-        Target::Plane(_, normal) => plane_correction(c, normal, f, s.r),
+        Target::Plane { normal, .. } => plane_correction(c, normal, f, s.r),
         Target::Pin(pin) => pin_correction(c, pin, f),
     }
 }
@@ -244,7 +245,7 @@ pub(crate) fn shifted(target: Target, x: Parameters, d: Parameters, scale: f64) 
     };
     match target {
         Target::Free => y,
-        Target::Plane(_, _) => y,
+        Target::Plane { .. } => y,
         Target::Pin(pin) => with_parameter(y, pin, parameter(x, pin)),
     }
 }

@@ -16,6 +16,11 @@ use patch::within_bounds;
 ghost use mathlib.Core.Path.{_≡_};
 ghost use Rattle.meeting.specs.Newton.{nearOf, trialsOf, lastTest, newtonRound, newtonOf, meetOf, meetInPlaneOf, landOf};
 
+// The most trials of a correction, and the most rounds.
+const MOST_TRIALS: usize = 12;
+
+const MOST_ROUNDS: usize = 32;
+
 // Where the surfaces were met, or that they were not.
 pub enum Met {
     At(Parameters),
@@ -40,24 +45,16 @@ fn near(a: Patch, b: Patch, s: Residual, bound: f64) -> bool
 {
     let f = s.f;
     let x = s.x;
-    if f.magnitude_at_most(bound) {
-        if number::abs(s.r) <= bound {
-            inside(a, b, x)
-        } else {
-            false
-        }
-    } else {
-        false
-    }
+    f.magnitude_at_most(bound) && (number::abs(s.r) <= bound && inside(a, b, x))
 }
 
-// Up to 12 trials, each with half the scale of the one before.
+// The trials, each with half the scale of the one before.
 fn trials(a: Patch, b: Patch, target: Target, s: Residual, d: Parameters) -> Trial
     ensures { λ r. ⌜ r ≡ trialsOf a b target s d ⌝ }
 {
     let x = s.x;
     let mut scale = 1.0;
-    for _ in 0..12usize {
+    for _ in 0..MOST_TRIALS {
         let y = within_bounds(a, b, shifted(target, x, d, scale));
         let t = residual_at(a, b, target, y);
         if t.merit < s.merit {
@@ -80,7 +77,7 @@ fn last_test(a: Patch, b: Patch, confusion: f64, s: Residual) -> Met
     }
 }
 
-// One round: accepted at once, or a step and its trials.
+// One round: accepted at once, or a correction and its trials.
 fn newton_round(a: Patch, b: Patch, target: Target, confusion: f64, s: Residual) -> Round
     ensures { λ r. ⌜ r ≡ newtonRound a b target confusion s ⌝ }
 {
@@ -88,8 +85,8 @@ fn newton_round(a: Patch, b: Patch, target: Target, confusion: f64, s: Residual)
         let x = s.x;
         return Round::End(Met::At(x));
     }
-    let step = newton_correction(a, b, target, s);
-    let Correction::By(d) = step else {
+    let correction = newton_correction(a, b, target, s);
+    let Correction::By(d) = correction else {
         return Round::End(Met::Nothing);
     };
     let trial = trials(a, b, target, s, d);
@@ -99,12 +96,12 @@ fn newton_round(a: Patch, b: Patch, target: Target, confusion: f64, s: Residual)
     Round::Next(t)
 }
 
-// At most 32 rounds from x.
+// The rounds from x, then the last test.
 fn newton(a: Patch, b: Patch, target: Target, x: Parameters, confusion: f64) -> Met
     ensures { λ r. ⌜ r ≡ newtonOf a b target x confusion ⌝ }
 {
     let mut s = residual_at(a, b, target, x);
-    for _ in 0..32usize {
+    for _ in 0..MOST_ROUNDS {
         let round = newton_round(a, b, target, confusion, s);
         match round {
             Round::End(met) => {
@@ -139,7 +136,7 @@ pub fn meet_in_plane(
     newton(
         a,
         b,
-        Target::Plane(origin, normal),
+        Target::Plane { origin, normal },
         within_bounds(a, b, x),
         tol.confusion,
     )

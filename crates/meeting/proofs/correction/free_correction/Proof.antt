@@ -37,9 +37,15 @@ returns c = rw (← c .before .before .before .before .before .before .normal-ma
 returns-2 : tie.Need-returns-2
 unfolding freeCorrection
 returns-2 c =
-    let c1 = c .before in let c2 = c1 .before in let c3 = c2 .before in let c8 = c3 .before .before .before .before .before in
-    let c10 = c8 .before .before in let c12 = c10 .before .before in let c16 = c12 .before .before .before .before in
-    rw (c .dot4 .ensures, c1 .dot3 .ensures, c2 .dot2 .ensures, c3 .dot .ensures, c8 .new .ensures, ← c16 .normal-matrix .ensures, ← c12 .solve-3x3 .ensures, c10 .solved .given .1)
+    let d = c .before .before in
+    let y = d .before .before .before .before .before .before in
+    let e = y .before .before in
+    let s = e .before .before in
+    rw (c .dot4 .ensures, c .before .dot3 .ensures, d .dot2 .ensures, d .before .dot .ensures, y .new .ensures, ← s .before .before .before .before .normal-matrix .ensures)
+    (rw (← s .solve-3x3 .ensures, e .solved .given .1))
 
 pub free-correction-spec : {M : Type 1} → statement M
-free-correction-spec = tie.close (tie.spec normal-matrix-requires solve-3x3-requires enum-told enum-known-solved new-requires dot-requires dot-requires-2 dot-requires-3 dot-requires-4 returns returns-2)
+free-correction-spec =
+    tie.close
+    (tie.spec normal-matrix-requires solve-3x3-requires enum-told enum-known-solved new-requires dot-requires dot-requires-2 dot-requires-3 dot-requires-4
+    returns returns-2)

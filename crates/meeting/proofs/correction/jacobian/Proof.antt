@@ -17,7 +17,9 @@ neg-requires-2 c κs = search needs
 
 returns : tie.Need-returns
 unfolding columnsOf
-returns c = rw (c .neg2 .ensures, c .before .neg .ensures, c .before .before .before .before .before .before .eval-d12 .ensures, c .before .before .before .before .before .before .before .eval-d1 .ensures)
+returns c =
+    let d = c .before .before .before .before .before .before in
+    rw (c .neg2 .ensures, c .before .neg .ensures, d .eval-d12 .ensures, d .before .eval-d1 .ensures)
 
 pub jacobian-spec : {M : Type 1} → statement M
 jacobian-spec = tie.close (tie.spec eval-d1-requires eval-d1-requires-2 neg-requires neg-requires-2 returns)

@@ -23,7 +23,10 @@ with-parameter-requires-3 c κs = search needs
 
 returns : tie.Need-returns
 unfolding placedOf
-returns c = rw (c .with-parameter3 .ensures, c .before .free3 .ensures, c .before .before .with-parameter2 .ensures, c .before .before .before .free2 .ensures, c .before .before .before .before .with-parameter .ensures, c .before .before .before .before .before .free .ensures)
+returns c =
+    let c2 = c .before .before in
+    let c1 = c2 .before .before in
+    rw (c .with-parameter3 .ensures, c .before .free3 .ensures, c2 .with-parameter2 .ensures, c2 .before .free2 .ensures, c1 .with-parameter .ensures, c1 .before .free .ensures)
 
 pub placed-spec : {M : Type 1} → statement M
 placed-spec = tie.close (tie.spec free-requires with-parameter-requires free-requires-2 with-parameter-requires-2 free-requires-3 with-parameter-requires-3 returns)

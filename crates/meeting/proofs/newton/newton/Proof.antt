@@ -4,16 +4,15 @@ use Prim.Native.Nat.{_-_, _≤_}
 use borrow.Author.Needs.{needs}
 use native.Mathlib.Omega.{arith}
 use Rattle.loops.proofs.Loop.{searched-again, searched-leave, searched-done}
-use Rattle.meeting.specs.Newton.{roundsFrom, newtonOf}
-use Rattle.meeting.proofs.Rounds.{round-on, round-out}
+use Rattle.meeting.specs.Newton.{mostRounds, roundsFrom, newtonOf}
 use Rattle.meeting.proofs.newton.newton.Statement.{statement}
 use Rattle.meeting.proofs.newton.newton.Tie as tie
 
 abbrev Inv-loop : tie.InvT-loop
-Inv-loop a b target confusion s₀ counter₀ s counter = (roundsFrom a b target confusion counter s ≡ roundsFrom a b target confusion 0 s₀) × (counter ≤ 32)
+Inv-loop a b target confusion s₀ counter₀ s counter = (roundsFrom a b target confusion counter s ≡ roundsFrom a b target confusion 0 s₀) × (counter ≤ mostRounds)
 
 abbrev μ-loop : tie.MeasureT-loop
-μ-loop a b target confusion s₀ counter₀ s counter = 32 - counter
+μ-loop a b target confusion s₀ counter₀ s counter = mostRounds - counter
 
 -- the first state is that of the definition
 start-is : (c : tie.After-residual-at Inv-loop μ-loop)
@@ -39,9 +38,7 @@ returns c =
     let r = c .before .before .before in
     let l = r .before in
     let p = l .before in
-    let g = p .before .before .args in
-    let step = round-out (g .a) (g .b) (g .target) (g .confusion) (p .loop .counter) (p .loop .s) (r .newton-round .ensures) (c .before .round .given .1) in
-    searched-leave _ _ _ 32 (l .loop-test .taken) step (p .loop .inv .0) ∙ start-is (p .before)
+    searched-leave _ _ _ mostRounds (l .loop-test .taken) (rw (← r .newton-round .ensures, c .before .round .given .1)) (p .loop .inv .0) ∙ start-is (p .before)
 
 enum-known-round-2 : tie.Need-enum-known-round-2 Inv-loop μ-loop
 enum-known-round-2 c = search needs
@@ -56,16 +53,13 @@ loop-again : tie.Need-loop-again Inv-loop μ-loop
 loop-again c =
     let r = c .before .before .before in
     let l = r .before in
-    let p = l .before in
-    let g = p .before .before .args in
-    let step = round-on (g .a) (g .b) (g .target) (g .confusion) (p .loop .counter) (p .loop .s) (r .newton-round .ensures) (c .before .round2 .given .1) in
-    (searched-again _ _ _ 32 (l .loop-test .taken) step (p .loop .inv .0), omega (arith, l .loop-test .taken))
+    (searched-again _ _ _ mostRounds (l .loop-test .taken) (rw (← r .newton-round .ensures, c .before .round2 .given .1)) (l .before .loop .inv .0), omega (arith, l .loop-test .taken))
 
 last-test-requires : tie.Need-last-test-requires Inv-loop μ-loop
 last-test-requires c κs = search needs
 
 returns-2 : tie.Need-returns-2 Inv-loop μ-loop
-returns-2 c = c .last-test .ensures ∙ searched-done _ _ _ 32 (c .before .loop-test .left) (c .before .before .loop .inv .0) ∙ start-is (c .before .before .before)
+returns-2 c = c .last-test .ensures ∙ searched-done _ _ _ mostRounds (c .before .loop-test .left) (c .before .before .loop .inv .0) ∙ start-is (c .before .before .before)
 
 pub newton-spec : {M : Type 1} → statement M
 newton-spec =

@@ -24,15 +24,18 @@ returns c = rw (at-once _ _ _ _ (c .before .before .near .ensures) (c .before .i
 newton-correction-requires : tie.Need-newton-correction-requires
 newton-correction-requires c κs = search needs
 
-enum-known-step : tie.Need-enum-known-step
-enum-known-step c = search needs
+enum-known-correction : tie.Need-enum-known-correction
+enum-known-correction c = search needs
 
 enum-told : tie.Need-enum-told
 enum-told c = search needs
 
 returns-2 : tie.Need-returns-2
 unfolding newtonRound
-returns-2 c = rw (at-once _ _ _ _ (c .before .before .before .before .near .ensures) (c .before .before .before .if1 .left), ← c .before .before .newton-correction .ensures, c .enum-told .given .1)
+returns-2 c =
+    let n = c .before .before in
+    let i = n .before in
+    rw (at-once _ _ _ _ (i .before .near .ensures) (i .if1 .left), ← n .newton-correction .ensures, c .enum-told .given .1)
 
 trials-requires : tie.Need-trials-requires
 trials-requires c κs = search needs
@@ -49,16 +52,24 @@ last-test-requires c κs = search needs
 returns-3 : tie.Need-returns-3
 unfolding newtonRound
 returns-3 c =
-    let c1 = c .before in let c3 = c1 .before .before in let c5 = c3 .before .before in let c7 = c5 .before .before in let c8 = c7 .before in
-    let c9 = c8 .before in
-    rw (at-once _ _ _ _ (c9 .near .ensures) (c8 .if1 .left), ← c7 .newton-correction .ensures, c5 .step .given .1, ← c3 .trials .ensures, c1 .enum-told2 .given .1, ← c .last-test .ensures)
+    let t = c .before .before .before in
+    let d = t .before .before in
+    let n = d .before .before in
+    let i = n .before in
+    rw (at-once _ _ _ _ (i .before .near .ensures) (i .if1 .left), ← n .newton-correction .ensures, d .correction .given .1, ← t .trials .ensures)
+    (rw (c .before .enum-told2 .given .1, ← c .last-test .ensures))
 
 returns-4 : tie.Need-returns-4
 unfolding newtonRound
 returns-4 c =
-    let c1 = c .before in let c3 = c1 .before .before in let c5 = c3 .before .before in let c7 = c5 .before .before in let c8 = c7 .before in
-    let c9 = c8 .before in
-    rw (at-once _ _ _ _ (c9 .near .ensures) (c8 .if1 .left), ← c7 .newton-correction .ensures, c5 .step .given .1, ← c3 .trials .ensures, c1 .trial .given .1)
+    let t = c .before .before .before in
+    let d = t .before .before in
+    let n = d .before .before in
+    let i = n .before in
+    rw (at-once _ _ _ _ (i .before .near .ensures) (i .if1 .left), ← n .newton-correction .ensures, d .correction .given .1, ← t .trials .ensures, c .before .trial .given .1)
 
 pub newton-round-spec : {M : Type 1} → statement M
-newton-round-spec = tie.close (tie.spec near-requires returns newton-correction-requires enum-known-step enum-told returns-2 trials-requires enum-known-trial enum-told-2 last-test-requires returns-3 returns-4)
+newton-round-spec =
+    tie.close
+    (tie.spec near-requires returns newton-correction-requires enum-known-correction enum-told returns-2 trials-requires enum-known-trial enum-told-2
+    last-test-requires returns-3 returns-4)

@@ -1,19 +1,19 @@
 -- The loop's invariant: the trials left give what all of them give.
-use mathlib.Core.Path.{_≡_, refl}
+use mathlib.Core.Path.{_≡_, refl, sym}
 use Prim.Native.Nat.{_-_, _≤_}
 use borrow.Author.Needs.{needs}
 use native.Mathlib.Omega.{arith}
+use Rattle.loops.proofs.Choice.{pick-taken, pick-left}
 use Rattle.loops.proofs.Loop.{searched-again, searched-leave, searched-done}
-use Rattle.meeting.specs.Newton.{trialsFrom, trialsOf}
-use Rattle.meeting.proofs.Rounds.{trial-on, trial-out}
+use Rattle.meeting.specs.Newton.{mostTrials, trialsFrom, trialsOf}
 use Rattle.meeting.proofs.newton.trials.Statement.{statement}
 use Rattle.meeting.proofs.newton.trials.Tie as tie
 
 abbrev Inv-loop : tie.InvT-loop
-Inv-loop a b target s d x scale₀ counter₀ scale counter = (trialsFrom a b target s d counter scale ≡ trialsOf a b target s d) × (counter ≤ 12)
+Inv-loop a b target s d x scale₀ counter₀ scale counter = (trialsFrom a b target s d counter scale ≡ trialsOf a b target s d) × (counter ≤ mostTrials)
 
 abbrev μ-loop : tie.MeasureT-loop
-μ-loop a b target s d x scale₀ counter₀ scale counter = 12 - counter
+μ-loop a b target s d x scale₀ counter₀ scale counter = mostTrials - counter
 
 loop-holds : tie.Need-loop-holds Inv-loop μ-loop
 unfolding trialsOf
@@ -32,10 +32,9 @@ returns : tie.Need-returns Inv-loop μ-loop
 returns c =
     let r = c .before .before .before in
     let l = r .before .before .before in
-    let p = l .before in
-    let g = p .before .before .args in
-    let step = trial-out (g .a) (g .b) (g .target) (g .s) (g .d) (p .loop .counter) (p .loop .scale) (r .before .before .shifted .ensures) (r .before .within-bounds .ensures) (r .residual-at .ensures) (c .if1 .taken) in
-    searched-leave _ _ _ 12 (l .loop-test .taken) step (p .loop .inv .0)
+    searched-leave _ _ _ mostTrials (l .loop-test .taken)
+    (rw (← r .before .before .shifted .ensures, ← r .before .within-bounds .ensures, ← r .residual-at .ensures) (sym (pick-taken _ (c .if1 .taken) refl)))
+    (l .before .loop .inv .0)
 
 add-counter : tie.Need-add-counter Inv-loop μ-loop
 add-counter c = omega (arith, c .before .before .before .before .before .before .loop-test .taken)
@@ -46,14 +45,15 @@ loop-less c = omega (arith, c .before .before .before .before .before .before .l
 loop-again : tie.Need-loop-again Inv-loop μ-loop
 loop-again c =
     let r = c .before .before .before in
-    let l = r .before .before .before in
-    let p = l .before in
-    let g = p .before .before .args in
-    let step = trial-on (g .a) (g .b) (g .target) (g .s) (g .d) (p .loop .counter) (p .loop .scale) (r .before .before .shifted .ensures) (r .before .within-bounds .ensures) (r .residual-at .ensures) (c .if1 .left) in
-    (searched-again _ _ _ 12 (l .loop-test .taken) step (p .loop .inv .0), omega (arith, l .loop-test .taken))
+    let l = r .before .before .before in (
+      searched-again _ _ _ mostTrials (l .loop-test .taken)
+          (rw (← r .before .before .shifted .ensures, ← r .before .within-bounds .ensures, ← r .residual-at .ensures) (sym (pick-left _ (c .if1 .left) refl)))
+          (l .before .loop .inv .0),
+      omega (arith, l .loop-test .taken),
+    )
 
 returns-2 : tie.Need-returns-2 Inv-loop μ-loop
-returns-2 c = searched-done _ _ _ 12 (c .loop-test .left) (c .before .loop .inv .0)
+returns-2 c = searched-done _ _ _ mostTrials (c .loop-test .left) (c .before .loop .inv .0)
 
 pub trials-spec : {M : Type 1} → statement M
 trials-spec =
