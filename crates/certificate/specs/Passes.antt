@@ -9,7 +9,7 @@ use lib.Ieee.{Float}
 use lib.Ieee.Scale.{finite}
 use Rattle.loops.specs.Loop.{pick}
 use Rattle.number.specs.Operators.{_≤?_}
-use Rattle.groups.specs.Groups.{width}
+use Rattle.groups.specs.Groups.{width, leastPoints, mostPoints}
 use Rattle.groups.specs.Row.{rowAt, pointAt}
 use Rattle.geometry.specs.declared.tolerance.Tolerance.{Tolerance}
 use Rattle.geometry.specs.Point.{distanceOf, longestChord}
@@ -55,8 +55,8 @@ pub record Passes (a b : Patch) (tol : Tolerance) (l : List Float) (count start 
   -- all its numbers are lent
   pub lent : width * count ≤ length l
   -- 4 to 4001 points, the start among them
-  pub least : 4 ≤ count
-  pub most : count ≤ 4001
+  pub least : leastPoints ≤ count
+  pub most : count ≤ mostPoints
   pub among : start < count
   -- closed as it claims
   pub closed : ClosedAs l count start closing

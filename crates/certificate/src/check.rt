@@ -1,5 +1,6 @@
 use geometry::Point3D;
 use geometry::Tolerance;
+use geometry::point::LONGEST_CHORD;
 use groups::Row;
 use groups::row::point_at;
 use groups::row::row_of;
@@ -113,7 +114,7 @@ fn chord_fits(points: &[f64], count: usize, closing: usize, i: usize) -> bool
         return true;
     }
     let p = point_at(points, i);
-    p.within(point_at(points, i - 1), 0.2)
+    p.within(point_at(points, i - 1), LONGEST_CHORD)
 }
 
 // Refusals 14, 13, 15 and 16 of point i.
@@ -220,10 +221,10 @@ fn closing_so(points: &[f64], count: usize, start: usize, closing: usize) -> boo
 fn claim_so(points: &[f64], count: usize, start: usize, closing: usize) -> bool
     ensures { λ r. ⌜ r ≡ claimSo (now (points .entry)) count start closing ⌝ }
 {
-    if count < 4 {
+    if count < groups::LEAST_POINTS {
         return false;
     }
-    if 4001 < count {
+    if groups::MOST_POINTS < count {
         return false;
     }
     if start < count {

@@ -9,6 +9,14 @@ use lib.ListN.{length, drop}
 abbrev pub width : ℕ
 width = 7
 
+-- "count outside 4 to 4001": a trace has at least
+abbrev pub leastPoints : ℕ
+leastPoints = 4
+
+-- and at most
+abbrev pub mostPoints : ℕ
+mostPoints = 4001
+
 -- the list from group i on
 abbrev pub fromGroup : {A : Type 0} → ℕ → ℕ → List A → List A
 fromGroup w i l = drop (w * i) l
