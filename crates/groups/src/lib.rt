@@ -11,6 +11,7 @@ pub const WIDTH: usize = 7;
 
 // How many points a trace has.
 pub const LEAST_POINTS: usize = 4;
+
 pub const MOST_POINTS: usize = 4001;
 
 // Whether the list has a whole group for each of `count` points. No product is formed, so that no count is too large.

@@ -1,11 +1,13 @@
 -- Fitness of a patch (refusals 1 to 4), and the windows that apply. Definitions only.
 use mathlib.Core.Bool.{Bool, true, false, _&&_}
+use mathlib.Core.List.{List, [], _∷_}
 use lib.Ieee.{Float}
 use Rattle.loops.specs.Loop.{pick}
 use Rattle.number.specs.Operators.{bits, _<?_, _≤?_}
 use Rattle.number.specs.Helpers.{absOf, clampOf, numberFit}
-use Rattle.refusal.specs.declared.Refusal.the-variants.{Number, Size, TurnMark}
-use Rattle.refusal.specs.declared.Refusal.the-variants as Refusal
+use Rattle.refusal.specs.declared.Refusal.the-variants as refusal
+use Rattle.refusal.specs.declared.Verdict.{Verdict}
+use Rattle.refusal.specs.Verdict.{asked, firstRefusal}
 use Rattle.geometry.specs.declared.vector.Vector3D.{Vector3D}
 use Rattle.geometry.specs.declared.frame.Frame3D.{Frame3D}
 use Rattle.geometry.specs.Point.{pointFit}
@@ -14,8 +16,6 @@ use Rattle.analytic.specs.declared.surface.Surface.the-variants.{Plane, Cylinde
 use Rattle.patch.specs.declared.patch.Window.{Window}
 use Rattle.patch.specs.declared.patch.Patch.{Patch}
 use Rattle.patch.specs.declared.patch.Parameters.{Parameters}
-use Rattle.refusal.specs.declared.Verdict.{Verdict}
-use Rattle.refusal.specs.declared.Verdict.the-variants.{Passed, Refused}
 
 -- ---- 1: "a number of the frame or a size is not finite, or above 2^20 in magnitude"
 
@@ -88,19 +88,19 @@ unfoldable pub markFit : Bool → Bool → Bool
 markFit turn angle = pick turn angle true
 
 -- ---- "1 to 4", in that order
+abbrev pub fitnessTests : Patch → List Verdict
+fitnessTests p =
+    asked (numbersFit (p .surface)) refusal.Number
+    ∷ asked (sizesFit (p .surface)) refusal.Size
+    ∷ asked (windowFit (p .u)) refusal.Window
+    ∷ asked (windowFit (p .v)) refusal.Window
+    ∷ asked (markFit (p .u .turn) (uIsAngle (p .surface))) refusal.TurnMark
+    ∷ asked (markFit (p .v .turn) (vIsAngle (p .surface))) refusal.TurnMark
+    ∷ []
+
+-- the fitness of a patch
 unfoldable pub fitnessOf : Patch → Verdict
-fitnessOf p =
-    pick (numbersFit (p .surface))
-    (pick (sizesFit (p .surface))
-    (pick (windowFit (p .u))
-    (pick (windowFit (p .v))
-    (pick (markFit (p .u .turn) (uIsAngle (p .surface)))
-    (pick (markFit (p .v .turn) (vIsAngle (p .surface))) Passed (Refused TurnMark))
-    (Refused TurnMark))
-    (Refused Refusal.Window))
-    (Refused Refusal.Window))
-    (Refused Size))
-    (Refused Number)
+fitnessOf p = firstRefusal (fitnessTests p)
 
 -- ---- the windows that apply: "its window is tested by 3, then not applied"
 
