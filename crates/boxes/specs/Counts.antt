@@ -5,7 +5,7 @@ use mathlib.Core.List.{List}
 use Prim.Native.Nat.{ℕ, _+_, _*_, _/_, _≤_, _<_}
 use lib.ListN.{length}
 use lib.Ieee.{Float}
-use Rattle.groups.specs.Groups.{width, fromGroup}
+use Rattle.groups.specs.Groups.{width, leastPoints, mostPoints, fromGroup}
 use Rattle.groups.specs.Row.{pointAt}
 use Rattle.geometry.specs.Tolerance.{toleranceFit}
 use Rattle.geometry.specs.declared.tolerance.Tolerance.{Tolerance}
@@ -33,7 +33,7 @@ pub record Counts (l : List Float) (count : ℕ) (grown : Aabb) (i : ℕ) : Type
 pub record Fit (tol : Tolerance) (l : List Float) (count : ℕ) (b : Aabb) : Type 0 where
   pub tolerance : toleranceFit tol ≡ true
   pub lent : width * count ≤ length l
-  pub least : 4 ≤ count
-  pub most : count ≤ 4001
+  pub least : leastPoints ≤ count
+  pub most : count ≤ mostPoints
   pub coordinates : (i : ℕ) → i < count → pointFit (pointAt l i) ≡ true
   pub corners : boxFit b ≡ true

@@ -71,10 +71,10 @@ pub fn crossing(tol: Tolerance, points: &[f64], count: usize, b: Aabb) -> Crosse
     if !groups::holds(points, count) {
         return Crossed::Refused(Refusal::Lent);
     }
-    if count < 4 {
+    if count < groups::LEAST_POINTS {
         return Crossed::Refused(Refusal::Claim);
     }
-    if 4001 < count {
+    if groups::MOST_POINTS < count {
         return Crossed::Refused(Refusal::Claim);
     }
     if some_unfit(points, count) {

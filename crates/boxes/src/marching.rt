@@ -6,7 +6,7 @@ use groups::row::point_at;
 ghost use mathlib.Core.Path.{_≡_};
 ghost use Prim.Native.Nat.{_+_, _*_, _-_, _≤_, _<_};
 ghost use lib.ListN.{length};
-ghost use Rattle.groups.specs.Groups.{width};
+ghost use Rattle.groups.specs.Groups.{width, mostPoints};
 ghost use Rattle.boxes.specs.Segment.{clipOf, segmentMeetsBox};
 ghost use Rattle.boxes.specs.Crosses.{grownOf, someSegment, runCrosses, runPoints, someRun, crossesOf};
 
@@ -107,7 +107,7 @@ fn run_points(count: usize, first: usize) -> usize
 
 // Each run is handed on as the part of the trace from its first point.
 fn some_run(points: &[f64], count: usize, b: Aabb) -> bool
-    requires { ⌜ (0 < count) × (count ≤ 4001) × (width * count ≤ length (now points)) ⌝ }
+    requires { ⌜ (0 < count) × (count ≤ mostPoints) × (width * count ≤ length (now points)) ⌝ }
     ensures { λ r. ⌜ r ≡ someRun (now (points .entry)) count b ⌝ }
 {
     let runs = (count - 1 + (RUN - 1)) / RUN;
@@ -137,7 +137,7 @@ fn grown(b: Aabb, confusion: f64) -> Aabb
 
 // Whether the trace passes through the grown box.
 pub(crate) fn crosses(points: &[f64], count: usize, b: Aabb, confusion: f64) -> bool
-    requires { ⌜ (0 < count) × (count ≤ 4001) × (width * count ≤ length (now points)) ⌝ }
+    requires { ⌜ (0 < count) × (count ≤ mostPoints) × (width * count ≤ length (now points)) ⌝ }
     ensures { λ r. ⌜ r ≡ crossesOf (now (points .entry)) count b confusion ⌝ }
 {
     let wide = grown(b, confusion);

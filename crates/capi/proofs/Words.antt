@@ -12,9 +12,9 @@ use Rattle.patch.specs.declared.patch.Patch.{Patch}
 use Rattle.patch.specs.declared.patch.Parameters.{Parameters}
 use Rattle.refusal.specs.declared.Verdict.{Verdict}
 use Rattle.refusal.specs.declared.Verdict.the-variants as checked
-use Rattle.certificate.specs.Passes.{Passes, ClosedAs, claimed-open, forward, backward}
+use Rattle.certificate.specs.Passes.{Passes}
 use Rattle.refusal.specs.Verdict as verdict
-use Rattle.certificate.proofs.Index.{check-index}
+use Rattle.certificate.proofs.Index.{check-index, code-small}
 use Rattle.walk.specs.declared.answer.Traced.{Traced}
 use Rattle.walk.specs.declared.answer.Traced.the-variants as traced
 use Rattle.job.specs.declared.file.Job.{Job}
@@ -34,11 +34,6 @@ pub number-fits : (r : Refusal) → numberOf r < 256
 number-fits r = let h = number-small r in omega (arith, h)
 
 -- ---- the trace's word
-
-code-small : {l : List Float} {count start closing : ℕ} → ClosedAs l count start closing → closing ≤ 2
-code-small (claimed-open e) = omega (arith, e)
-code-small (forward e s q) = omega (arith, e)
-code-small (backward e s q) = omega (arith, e)
 
 module _ {a b : Patch} {tol : Tolerance} {guess : Parameters} {cap : ℕ} {before after : List Float} where
   -- what `trace` answers has room in a word

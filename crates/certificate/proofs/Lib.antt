@@ -1,4 +1,4 @@
-pub mod Turns
+pub mod Iterations
 pub mod Bits
 pub mod Passed
 pub mod Index

@@ -3,6 +3,9 @@ ghost use mathlib.Core.Path.{_≡_};
 ghost use Rattle.number.specs.Operators.{_≤?_};
 ghost use Rattle.geometry.specs.Point.{pointOf, distanceOf, addVectorOf, differenceOf, pointFit};
 
+// No chord of a trace is longer, the closing one left out.
+pub const LONGEST_CHORD: f64 = 0.2;
+
 pub struct Point3D {
     pub x: f64,
     pub y: f64,

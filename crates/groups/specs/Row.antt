@@ -14,6 +14,10 @@ use Rattle.groups.specs.Groups.{width}
 abbrev pub numbersOf : Row → List Float
 numbersOf r = r .x ∷ r .y ∷ r .z ∷ r .u1 ∷ r .v1 ∷ r .u2 ∷ r .v2 ∷ []
 
+-- the point itself: "x, y, z" come first
+abbrev pub pointIn : Row → Point3D
+pointIn r = record { x = r .x; y = r .y; z = r .z }
+
 -- the numbers of the point that stands from index `at` on
 abbrev pub rowFrom : List Float → ℕ → Row
 rowFrom l at = record {
@@ -30,9 +34,9 @@ rowFrom l at = record {
 abbrev pub rowAt : List Float → ℕ → Row
 rowAt l i = rowFrom l (width * i)
 
--- its coordinates: "x, y, z" come first
+-- its coordinates
 abbrev pub pointAt : List Float → ℕ → Point3D
-pointAt l i = record { x = rowAt l i .x; y = rowAt l i .y; z = rowAt l i .z }
+pointAt l i = pointIn (rowAt l i)
 
 -- seven zeros
 abbrev pub noRow : Row

@@ -4,7 +4,7 @@ ghost use mathlib.Core.Path.{_≡_};
 ghost use Prim.Native.Nat.{_+_, _*_, _≤_};
 ghost use lib.ListN.{length};
 ghost use Rattle.groups.specs.Groups.{width};
-ghost use Rattle.groups.specs.Row.{rowFrom, rowOf, pointAt};
+ghost use Rattle.groups.specs.Row.{numbersOf, pointIn, rowFrom, rowOf, pointAt};
 
 // The numbers of one point: a point of surface A, then its parameters on A and on B.
 pub struct Row {
@@ -15,6 +15,26 @@ pub struct Row {
     pub v1: f64,
     pub u2: f64,
     pub v2: f64,
+}
+
+impl Row {
+    // The point itself.
+    pub fn point(self) -> Point3D
+        ensures { λ r. ⌜ r ≡ pointIn self ⌝ }
+    {
+        Point3D {
+            x: self.x,
+            y: self.y,
+            z: self.z,
+        }
+    }
+
+    // The numbers in their order.
+    pub fn numbers(self) -> [f64; WIDTH]
+        ensures { λ r. ⌜ r ≡ numbersOf self ⌝ }
+    {
+        [self.x, self.y, self.z, self.u1, self.v1, self.u2, self.v2]
+    }
 }
 
 // The numbers of the point that stands from index `at` on.
@@ -57,5 +77,9 @@ pub fn point_at(points: &[f64], i: usize) -> Point3D
     ensures { λ r. ⌜ r ≡ pointAt (now (points .entry)) i ⌝ }
 {
     let at = WIDTH * i;
-    Point3D::new(points[at], points[at + 1], points[at + 2])
+    Point3D {
+        x: points[at],
+        y: points[at + 1],
+        z: points[at + 2],
+    }
 }

@@ -24,16 +24,17 @@ use Rattle.analytic.specs.Surface.{evalPoint}
 use Rattle.patch.specs.declared.patch.Patch.{Patch}
 use Rattle.patch.specs.declared.patch.Window.{Window}
 use Rattle.patch.specs.Patch.{vectorFit, frameFit, numbersFit, sizesFit, windowFit, markFit, uIsAngle, vIsAngle, fitnessOf, windowHolds, insideOf}
+use Rattle.patch.specs.Pair.{pairFitness}
 use Rattle.refusal.specs.declared.Verdict.{Verdict}
 use Rattle.refusal.specs.declared.Verdict.the-variants.{Passed, Refused}
 use Rattle.certificate.specs.Passes.{Passes}
-use Rattle.certificate.specs.Check.{finitePoint, samePoint, ownOf, pointAnswer, chordFits, answerAt, pointsAnswer, sameRow, closingSo, claimSo, claimAnswer, checkOf}
+use Rattle.certificate.specs.Check.{sameNumbers, finitePoint, ownOf, chordFits, pointVerdict, pointsVerdict, closingSo, claimSo, checkOf}
 use Rattle.certificate.proofs.Bits.{Binary64}
 use Rattle.certificate.proofs.Passed.{checked-passes}
 
 -- opens what a check of planes needs
 unfoldable pub computing : Unit {0}
-unfolding checkOf claimAnswer claimSo closingSo sameRow pointsAnswer answerAt chordFits pointAnswer ownOf samePoint finitePoint sameBits absOf holdsOf rowOf exits toleranceFit fitnessOf numbersFit sizesFit windowFit markFit uIsAngle vIsAngle frameFit vectorFit pointFit numberFit insideOf windowHolds evalPoint pointAtOf addVectorOf scaleOf pointOf vectorOf distanceOf sqrtOf Ieee.isNan Ieee.toBits Ieee.ofBits Ieee.add Ieee.sub Ieee.mul Ieee.div Ieee.lt Ieee.le Ieee.eq
+unfolding checkOf claimSo closingSo sameNumbers pointsVerdict chordFits pointVerdict ownOf finitePoint sameBits absOf holdsOf rowOf exits toleranceFit pairFitness fitnessOf numbersFit sizesFit windowFit markFit uIsAngle vIsAngle frameFit vectorFit pointFit numberFit insideOf windowHolds evalPoint pointAtOf addVectorOf scaleOf pointOf vectorOf distanceOf sqrtOf Ieee.isNan Ieee.toBits Ieee.ofBits Ieee.add Ieee.sub Ieee.mul Ieee.div Ieee.lt Ieee.le Ieee.eq
 computing = tt
 
 -- ---- two planes that meet in the x axis, B raised by h; windows -1 to 1, no marks; confusion 2^-20

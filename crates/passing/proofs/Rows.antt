@@ -6,13 +6,14 @@ use Prim.Native.Nat.{ℕ, zero, suc, _+_, _-_, _*_, _≤_, _<_}
 use native.Mathlib.Omega.{arith}
 use lib.Dec.{T}
 use lib.Ieee.{Float, nan}
-use lib.Ieee.Scale.{finite}
 use lib.ListN.{length, getD, length-append}
 use lib.Seq.{getD-append-add}
 use Rattle.number.specs.Operators.{_≤?_}
 use Rattle.groups.specs.Groups.{width}
 use Rattle.groups.specs.declared.row.Row.{Row}
-use Rattle.groups.specs.Row.{numbersOf, rowAt, pointAt}
+use Rattle.groups.specs.Groups.{width}
+use Rattle.groups.specs.Row.{numbersOf, pointIn, rowAt, rowOf}
+use Rattle.groups.proofs.Rows.{row-there}
 use Rattle.geometry.specs.declared.point.Point3D.{Point3D}
 use Rattle.geometry.specs.declared.tolerance.Tolerance.{Tolerance}
 use Rattle.geometry.specs.Tolerance.{toleranceFit}
@@ -20,8 +21,8 @@ use Rattle.geometry.specs.Point.{distanceOf, longestChord}
 use Rattle.patch.specs.declared.patch.Patch.{Patch}
 use Rattle.patch.specs.declared.patch.Parameters.{Parameters}
 use Rattle.refusal.specs.declared.Verdict.the-variants.{Passed}
-use Rattle.patch.specs.Patch.{fitnessOf, insideOf}
-use Rattle.patch.specs.Located.{pointA, pointB}
+use Rattle.patch.specs.Patch.{fitnessOf}
+use Rattle.patch.specs.Located.{pointA}
 use Rattle.meeting.specs.Intersection.{IsIntersection}
 use Rattle.meeting.proofs.Intersection.{intersection-finite}
 use Rattle.certificate.specs.Passes.{closingChord, PointPasses, ClosedAs, claimed-open, forward, backward, Passes}
@@ -55,22 +56,8 @@ row-of a (y ∷ ys) rest d (suc i) h = row-past (ownRow a y) (rowsOf a ys ++ res
 
 -- ---- one row
 
-abbrev pointIn : Row → Point3D
-pointIn r = record { x = r .x; y = r .y; z = r .z }
-
-abbrev parametersIn : Row → Parameters
-parametersIn r = record { u1 = r .u1; v1 = r .v1; u2 = r .u2; v2 = r .v2 }
-
-record RowPasses (a b : Patch) (confusion : Float) (r : Row) : Type 0 where
-  inside : T (insideOf a b (parametersIn r))
-  finite-x : T (finite (pointA a (parametersIn r) .x))
-  finite-y : T (finite (pointA a (parametersIn r) .y))
-  finite-z : T (finite (pointA a (parametersIn r) .z))
-  own : pointIn r ≡ pointA a (parametersIn r)
-  gap : T (distanceOf (pointA a (parametersIn r)) (pointB b (parametersIn r)) ≤? confusion)
-
 module _ (a b : Patch) (tol : Tolerance) (fit : T (toleranceFit tol)) where
-  good-row : (y : Parameters) → IsIntersection a b (tol .confusion) y → RowPasses a b (tol .confusion) (ownRow a y)
+  good-row : (y : Parameters) → IsIntersection a b (tol .confusion) y → PointPasses a b tol (ownRow a y)
   good-row y g =
       let f = intersection-finite a b tol fit y g .0 in
       record { inside = g .inside; finite-x = f .x-finite; finite-y = f .y-finite; finite-z = f .z-finite; own = refl; gap = g .gap }
@@ -81,30 +68,32 @@ module _ (a b : Patch) (tol : Tolerance) (fit : T (toleranceFit tol)) where
     abbrev l : List Float
     l = rowsOf a points ++ rest
 
-    row-is : (i : ℕ) → i < length points → rowAt l i ≡ ownRow a (getD points i x)
-    row-is i h = row-of a points rest x i h
+    lent : width * length points ≤ length l
+    lent = let e = length-append (rowsOf a points) rest in let s = rows-length a points in omega (arith, e, s)
 
-    point-passes : (i : ℕ) → i < length points → PointPasses a b tol l i
+    row-is : (i : ℕ) → i < length points → rowOf l i ≡ ownRow a (getD points i x)
+    row-is i h = row-there l i (let n = lent in omega (arith, n, h)) ∙ row-of a points rest x i h
+
+    point-passes : (i : ℕ) → i < length points → PointPasses a b tol (rowOf l i)
     point-passes i h =
-        let r = subst (RowPasses a b (tol .confusion)) (sym (row-is i h)) (good-row (getD points i x) (all-at (IsIntersection a b (tol .confusion)) points x i h (v .good))) in
-        record { inside = r .inside; finite-x = r .finite-x; finite-y = r .finite-y; finite-z = r .finite-z; own = r .own; gap = r .gap }
+        subst (PointPasses a b tol) (sym (row-is i h)) (good-row (getD points i x) (all-at (IsIntersection a b (tol .confusion)) points x i h (v .good)))
 
-    point-is : (i : ℕ) → i < length points → pointAt l i ≡ pointA a (getD points i x)
+    point-is : (i : ℕ) → i < length points → pointIn (rowOf l i) ≡ pointA a (getD points i x)
     point-is i h = ap pointIn (row-is i h)
 
-    chord-passes : (i : ℕ) → 0 < i → i < length points → closingChord (length points) closing i ≡ false → T (distanceOf (pointAt l i) (pointAt l (i - 1)) ≤? longestChord)
+    chord-passes : (i : ℕ) → 0 < i → i < length points → closingChord (length points) closing i ≡ false → T (distanceOf (pointIn (rowOf l i)) (pointIn (rowOf l (i - 1))) ≤? longestChord)
     chord-passes zero z h c = absurd (let e : ⊥ = omega arith in e)
     chord-passes (suc j) z h c =
-        subst (λ (k : ℕ). T (distanceOf (pointAt l (suc j)) (pointAt l k) ≤? longestChord)) (let e : j ≡ suc j - 1 = omega arith in e)
-        (subst (λ (p : Point3D). T (distanceOf p (pointAt l j) ≤? longestChord)) (sym (point-is (suc j) h))
+        subst (λ (k : ℕ). T (distanceOf (pointIn (rowOf l (suc j))) (pointIn (rowOf l k)) ≤? longestChord)) (let e : j ≡ suc j - 1 = omega arith in e)
+        (subst (λ (p : Point3D). T (distanceOf p (pointIn (rowOf l j)) ≤? longestChord)) (sym (point-is (suc j) h))
         (subst (λ (p : Point3D). T (distanceOf (pointA a (getD points (suc j) x)) p ≤? longestChord)) (sym (point-is j (omega arith)))
         (v .chords j h c)))
 
     -- equal parameters, equal rows
-    rows-same : (i j : ℕ) → i < length points → j < length points → getD points i x ≡ getD points j x → rowAt l i ≡ rowAt l j
+    rows-same : (i j : ℕ) → i < length points → j < length points → getD points i x ≡ getD points j x → rowOf l i ≡ rowOf l j
     rows-same i j h k e = row-is i h ∙ ap (ownRow a) e ∙ sym (row-is j k)
 
-    closed-as : Round x points start closing → ClosedAs l (length points) start closing
+    closed-as : Round x points start closing → ClosedAs (rowOf l) (length points) start closing
     closed-as (not-round e) = claimed-open e
     closed-as (round-forward e s q) = let m = v .among in forward e s (rows-same (length points - 1) 0 (omega (arith, m)) (omega (arith, m)) q)
     closed-as (round-back e s q) = let m = v .among in backward e s (rows-same 0 start (omega (arith, m)) m q)
@@ -114,7 +103,7 @@ module _ (a b : Patch) (tol : Tolerance) (fit : T (toleranceFit tol)) where
       fitA = fa;
       fitB = fb;
       tolerance = fit;
-      lent = let e = length-append (rowsOf a points) rest in let s = rows-length a points in omega (arith, e, s);
+      lent = lent;
       least = least;
       most = let f = v .few in omega (arith, f, cap);
       among = v .among;

@@ -2,12 +2,13 @@
 use mathlib.Core.Path.{_≡_, refl, ap}
 use mathlib.Core.Bool.{Bool, true, false}
 use mathlib.Core.List.{List, [], _∷_}
-use Prim.Native.Nat.{ℕ}
+use Prim.Native.Nat.{ℕ, _≤_}
 use native.Mathlib.Omega.{arith}
 use Rattle.refusal.specs.declared.Refusal.{Refusal}
 use Rattle.refusal.specs.declared.Verdict.{Verdict}
 use Rattle.refusal.specs.declared.Verdict.the-variants.{Passed, Refused}
-use Rattle.refusal.specs.Verdict.{asked, firstRefusal, AllPassed}
+use Rattle.refusal.specs.Refusal.{indexOf}
+use Rattle.refusal.specs.Verdict.{indexIn, asked, firstRefusal, AllPassed}
 
 abbrev sign : Verdict → ℕ
 sign Passed = 1
@@ -31,8 +32,32 @@ first-passed [] e = tt
 first-passed (Passed ∷ rest) e = (refl, first-passed rest e)
 first-passed (Refused r ∷ rest) e = absurd (unpassed e)
 
+-- the last test's verdict stands
+pub last-test : (v : Verdict) → firstRefusal (v ∷ []) ≡ v
+last-test Passed = refl
+last-test (Refused r) = refl
+
 -- and back
 pub passed-first : (l : List Verdict) → AllPassed l → firstRefusal l ≡ Passed
 passed-first [] h = refl
 passed-first (Passed ∷ rest) h = passed-first rest (h .1)
 passed-first (Refused r ∷ rest) h = absurd (unpassed (h .0))
+
+-- something holds of every test's verdict, as far as those before pass
+abbrev pub Each : (Verdict → Type 0) → List Verdict → Type 0
+Each P [] = P Passed
+Each P (v ∷ rest) = P v × (v ≡ Passed → Each P rest)
+
+-- so it holds of the first refusal
+pub first-each : (P : Verdict → Type 0) (l : List Verdict) → Each P l → P (firstRefusal l)
+first-each P [] h = h
+first-each P (Passed ∷ rest) h = first-each P rest (h .1 refl)
+first-each P (Refused r ∷ rest) h = h .0
+
+-- the index that a test's refusal names is at most n
+abbrev pub Below : ℕ → Verdict → Type 0
+Below n v = indexIn v ≤ n
+
+pub asked-below : (t : Bool) (r : Refusal) (n : ℕ) → indexOf r ≤ n → Below n (asked t r)
+asked-below true r n h = omega arith
+asked-below false r n h = h

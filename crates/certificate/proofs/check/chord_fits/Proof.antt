@@ -15,14 +15,11 @@ returns-2 : tie.Need-returns-2
 unfolding chordFits
 returns-2 c = rw (ne-eqb _ _ (c .before .before .if1 .left), ← c .before .closing-chord .ensures, c .if2 .taken)
 
-point-at-requires : tie.Need-point-at-requires
-point-at-requires c κs = search needs
+point-requires : tie.Need-point-requires
+point-requires c κs = search needs
 
-sub-point-at : tie.Need-sub-point-at
-sub-point-at c = search needs
-
-point-at-requires-2 : tie.Need-point-at-requires-2
-point-at-requires-2 c κs = search needs
+point-requires-2 : tie.Need-point-requires-2
+point-requires-2 c κs = search needs
 
 within-requires : tie.Need-within-requires
 within-requires c κs = search needs
@@ -31,17 +28,7 @@ returns-3 : tie.Need-returns-3
 unfolding chordFits
 returns-3 c =
     let e = c .before .before .before in
-    rw (c .within .ensures, c .before .point-at2 .ensures, c .before .before .point-at .ensures, ne-eqb _ _ (e .before .before .if1 .left), ← e .before .closing-chord .ensures, e .if2 .left)
+    rw (c .within .ensures, c .before .point2 .ensures, c .before .before .point .ensures, ne-eqb _ _ (e .before .before .if1 .left), ← e .before .closing-chord .ensures, e .if2 .left)
 
 pub chord-fits-spec : {M : Type 1} → statement M
-chord-fits-spec =
-    tie.close
-    (tie.spec
-    returns
-    closing-chord-requires
-    returns-2
-    point-at-requires
-    sub-point-at
-    point-at-requires-2
-    within-requires
-    returns-3)
+chord-fits-spec = tie.close (tie.spec returns closing-chord-requires returns-2 point-requires point-requires-2 within-requires returns-3)

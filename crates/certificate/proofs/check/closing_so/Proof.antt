@@ -1,4 +1,4 @@
-use borrow.Author.Tests.{eq-eqb, ne-eqb, lt-ltb, le-ltb}
+use borrow.Author.Tests.{eq-eqb, ne-eqb, le-leb, lt-leb}
 use Rattle.certificate.specs.Check.{closingSo}
 use borrow.Author.Needs.{needs}
 use Rattle.certificate.proofs.check.closing_so.Statement.{statement}
@@ -30,12 +30,6 @@ returns-3 : tie.Need-returns-3
 unfolding closingSo
 returns-3 c = rw (ne-eqb _ 0 (c .before .before .if1 .left), eq-eqb _ 1 (c .before .if2 .taken), ne-eqb _ 0 (c .if3 .left))
 
-returns-4 : tie.Need-returns-4
-unfolding closingSo
-returns-4 c =
-    let s = c .before in
-    rw (ne-eqb _ 0 (s .before .before .if1 .left), ne-eqb _ 1 (s .before .if2 .left), eq-eqb _ 2 (s .if4 .taken), lt-ltb _ 2 (c .if5 .taken))
-
 row-of-requires-3 : tie.Need-row-of-requires-3
 row-of-requires-3 c κs = search needs
 
@@ -45,12 +39,18 @@ row-of-requires-4 c κs = search needs
 same-row-requires-2 : tie.Need-same-row-requires-2
 same-row-requires-2 c κs = search needs
 
+returns-4 : tie.Need-returns-4
+unfolding closingSo
+returns-4 c =
+    let e = c .before .before .before in
+    let s = e .before in
+    rw (c .same-row2 .ensures, c .before .row-of4 .ensures, c .before .before .row-of3 .ensures, ne-eqb _ 0 (s .before .before .if1 .left), ne-eqb _ 1 (s .before .if2 .left), eq-eqb _ 2 (s .if4 .taken), le-leb 2 _ (e .if5 .taken))
+
 returns-5 : tie.Need-returns-5
 unfolding closingSo
 returns-5 c =
-    let e = c .before .before .before in
-    let s = e .before in
-    rw (c .same-row2 .ensures, c .before .row-of4 .ensures, c .before .before .row-of3 .ensures, ne-eqb _ 0 (s .before .before .if1 .left), ne-eqb _ 1 (s .before .if2 .left), eq-eqb _ 2 (s .if4 .taken), le-ltb _ 2 (e .if5 .left))
+    let s = c .before in
+    rw (ne-eqb _ 0 (s .before .before .if1 .left), ne-eqb _ 1 (s .before .if2 .left), eq-eqb _ 2 (s .if4 .taken), lt-leb 2 _ (c .if5 .left))
 
 returns-6 : tie.Need-returns-6
 unfolding closingSo
@@ -67,9 +67,9 @@ closing-so-spec =
     same-row-requires
     returns-2
     returns-3
-    returns-4
     row-of-requires-3
     row-of-requires-4
     same-row-requires-2
+    returns-4
     returns-5
     returns-6)

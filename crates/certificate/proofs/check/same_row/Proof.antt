@@ -1,74 +1,87 @@
-use borrow.Author.Tests.{not-false, not-true}
-use Rattle.certificate.specs.Check.{sameRow}
+-- The search goes on as the definition's does.
+use mathlib.Core.Path.{_≡_, refl}
+use Prim.Native.Nat.{_-_, _≤_}
+use lib.ListN.{drop}
 use borrow.Author.Needs.{needs}
+use native.Mathlib.Omega.{arith}
+use Rattle.groups.specs.Groups.{width}
+use Rattle.certificate.specs.Check.{sameNumbers}
+use Rattle.certificate.proofs.Iterations.{number-out, number-on, numbers-done}
 use Rattle.certificate.proofs.check.same_row.Statement.{statement}
 use Rattle.certificate.proofs.check.same_row.Tie as tie
 
-same-bits-requires : tie.Need-same-bits-requires
+abbrev Inv-loop : tie.InvT-loop
+Inv-loop left right k₀ k = (sameNumbers (drop k left) (drop k right) ≡ sameNumbers left right) × (k ≤ width)
+
+abbrev μ-loop : tie.MeasureT-loop
+μ-loop left right k₀ k = width - k
+
+numbers-requires : tie.Need-numbers-requires Inv-loop μ-loop
+numbers-requires c κs = search needs
+
+numbers-requires-2 : tie.Need-numbers-requires-2 Inv-loop μ-loop
+numbers-requires-2 c κs = search needs
+
+loop-holds : tie.Need-loop-holds Inv-loop μ-loop
+loop-holds c = (refl, omega arith)
+
+mul-same-bits : tie.Need-mul-same-bits Inv-loop μ-loop
+mul-same-bits c = search needs
+
+array-read-same-bits : tie.Need-array-read-same-bits Inv-loop μ-loop
+array-read-same-bits c = search needs
+
+mul-same-bits-2 : tie.Need-mul-same-bits-2 Inv-loop μ-loop
+mul-same-bits-2 c = search needs
+
+array-read-same-bits-2 : tie.Need-array-read-same-bits-2 Inv-loop μ-loop
+array-read-same-bits-2 c = search needs
+
+same-bits-requires : tie.Need-same-bits-requires Inv-loop μ-loop
 same-bits-requires c κs = search needs
 
-returns : tie.Need-returns
-unfolding sameRow
-returns c = rw (← c .before .same-bits .ensures, not-true (c .before .same-bits .result) (c .if1 .taken))
+returns : tie.Need-returns Inv-loop μ-loop
+returns c =
+    let l = c .before .before in
+    let p = l .before in
+    let g = p .before in
+    number-out (g .before .numbers .ensures) (g .numbers2 .ensures) (p .loop .k) (p .loop .inv .0) (l .loop-test .taken) (c .before .same-bits .ensures) (c .if1 .taken)
 
-same-bits-requires-2 : tie.Need-same-bits-requires-2
-same-bits-requires-2 c κs = search needs
+add-k : tie.Need-add-k Inv-loop μ-loop
+add-k c = search needs
 
-returns-2 : tie.Need-returns-2
-unfolding sameRow
-returns-2 c = rw (← c .before .before .before .same-bits .ensures, not-false (c .before .before .before .same-bits .result) (c .before .before .if1 .left), ← c .before .same-bits2 .ensures, not-true (c .before .same-bits2 .result) (c .if2 .taken))
+loop-less : tie.Need-loop-less Inv-loop μ-loop
+loop-less c = search needs
 
-same-bits-requires-3 : tie.Need-same-bits-requires-3
-same-bits-requires-3 c κs = search needs
+loop-again : tie.Need-loop-again Inv-loop μ-loop
+loop-again c =
+    let l = c .before .before in
+    let p = l .before in
+    let g = p .before in
+    (number-on (g .before .numbers .ensures) (g .numbers2 .ensures) (p .loop .k) (p .loop .inv .0) (l .loop-test .taken) (c .before .same-bits .ensures) (c .if1 .left), omega (arith, l .loop-test .taken))
 
-returns-3 : tie.Need-returns-3
-unfolding sameRow
-returns-3 c = rw (← c .before .before .before .before .before .same-bits .ensures, not-false (c .before .before .before .before .before .same-bits .result) (c .before .before .before .before .if1 .left), ← c .before .before .before .same-bits2 .ensures, not-false (c .before .before .before .same-bits2 .result) (c .before .before .if2 .left), ← c .before .same-bits3 .ensures, not-true (c .before .same-bits3 .result) (c .if3 .taken))
-
-same-bits-requires-4 : tie.Need-same-bits-requires-4
-same-bits-requires-4 c κs = search needs
-
-returns-4 : tie.Need-returns-4
-unfolding sameRow
-returns-4 c = rw (← c .before .before .before .before .before .before .before .same-bits .ensures, not-false (c .before .before .before .before .before .before .before .same-bits .result) (c .before .before .before .before .before .before .if1 .left), ← c .before .before .before .before .before .same-bits2 .ensures, not-false (c .before .before .before .before .before .same-bits2 .result) (c .before .before .before .before .if2 .left), ← c .before .before .before .same-bits3 .ensures, not-false (c .before .before .before .same-bits3 .result) (c .before .before .if3 .left), ← c .before .same-bits4 .ensures, not-true (c .before .same-bits4 .result) (c .if4 .taken))
-
-same-bits-requires-5 : tie.Need-same-bits-requires-5
-same-bits-requires-5 c κs = search needs
-
-returns-5 : tie.Need-returns-5
-unfolding sameRow
-returns-5 c = rw (← c .before .before .before .before .before .before .before .before .before .same-bits .ensures, not-false (c .before .before .before .before .before .before .before .before .before .same-bits .result) (c .before .before .before .before .before .before .before .before .if1 .left), ← c .before .before .before .before .before .before .before .same-bits2 .ensures, not-false (c .before .before .before .before .before .before .before .same-bits2 .result) (c .before .before .before .before .before .before .if2 .left), ← c .before .before .before .before .before .same-bits3 .ensures, not-false (c .before .before .before .before .before .same-bits3 .result) (c .before .before .before .before .if3 .left), ← c .before .before .before .same-bits4 .ensures, not-false (c .before .before .before .same-bits4 .result) (c .before .before .if4 .left), ← c .before .same-bits5 .ensures, not-true (c .before .same-bits5 .result) (c .if5 .taken))
-
-same-bits-requires-6 : tie.Need-same-bits-requires-6
-same-bits-requires-6 c κs = search needs
-
-returns-6 : tie.Need-returns-6
-unfolding sameRow
-returns-6 c = rw (← c .before .before .before .before .before .before .before .before .before .before .before .same-bits .ensures, not-false (c .before .before .before .before .before .before .before .before .before .before .before .same-bits .result) (c .before .before .before .before .before .before .before .before .before .before .if1 .left), ← c .before .before .before .before .before .before .before .before .before .same-bits2 .ensures, not-false (c .before .before .before .before .before .before .before .before .before .same-bits2 .result) (c .before .before .before .before .before .before .before .before .if2 .left), ← c .before .before .before .before .before .before .before .same-bits3 .ensures, not-false (c .before .before .before .before .before .before .before .same-bits3 .result) (c .before .before .before .before .before .before .if3 .left), ← c .before .before .before .before .before .same-bits4 .ensures, not-false (c .before .before .before .before .before .same-bits4 .result) (c .before .before .before .before .if4 .left), ← c .before .before .before .same-bits5 .ensures, not-false (c .before .before .before .same-bits5 .result) (c .before .before .if5 .left), ← c .before .same-bits6 .ensures, not-true (c .before .same-bits6 .result) (c .if6 .taken))
-
-same-bits-requires-7 : tie.Need-same-bits-requires-7
-same-bits-requires-7 c κs = search needs
-
-returns-7 : tie.Need-returns-7
-unfolding sameRow
-returns-7 c = rw (← c .before .before .before .before .before .before .before .before .before .before .before .before .same-bits .ensures, not-false (c .before .before .before .before .before .before .before .before .before .before .before .before .same-bits .result) (c .before .before .before .before .before .before .before .before .before .before .before .if1 .left), ← c .before .before .before .before .before .before .before .before .before .before .same-bits2 .ensures, not-false (c .before .before .before .before .before .before .before .before .before .before .same-bits2 .result) (c .before .before .before .before .before .before .before .before .before .if2 .left), ← c .before .before .before .before .before .before .before .before .same-bits3 .ensures, not-false (c .before .before .before .before .before .before .before .before .same-bits3 .result) (c .before .before .before .before .before .before .before .if3 .left), ← c .before .before .before .before .before .before .same-bits4 .ensures, not-false (c .before .before .before .before .before .before .same-bits4 .result) (c .before .before .before .before .before .if4 .left), ← c .before .before .before .before .same-bits5 .ensures, not-false (c .before .before .before .before .same-bits5 .result) (c .before .before .before .if5 .left), ← c .before .before .same-bits6 .ensures, not-false (c .before .before .same-bits6 .result) (c .before .if6 .left))
-    (c .same-bits7 .ensures)
+returns-2 : tie.Need-returns-2 Inv-loop μ-loop
+returns-2 c =
+    let p = c .before in
+    let g = p .before in
+    numbers-done (g .before .numbers .ensures) (g .numbers2 .ensures) (p .loop .k) (p .loop .inv .0) (c .loop-test .left)
 
 pub same-row-spec : {M : Type 1} → statement M
 same-row-spec =
     tie.close
     (tie.spec
+    Inv-loop
+    μ-loop
+    numbers-requires
+    numbers-requires-2
+    loop-holds
+    mul-same-bits
+    array-read-same-bits
+    mul-same-bits-2
+    array-read-same-bits-2
     same-bits-requires
     returns
-    same-bits-requires-2
-    returns-2
-    same-bits-requires-3
-    returns-3
-    same-bits-requires-4
-    returns-4
-    same-bits-requires-5
-    returns-5
-    same-bits-requires-6
-    returns-6
-    same-bits-requires-7
-    returns-7)
+    add-k
+    loop-less
+    loop-again
+    returns-2)

@@ -1,41 +1,37 @@
 use borrow.Author.Needs.{needs}
-use Rattle.geometry.specs.Point.{pointOf}
+use mathlib.Core.Path.{refl}
 use Rattle.groups.proofs.row.point_at.Statement.{statement}
 use Rattle.groups.proofs.row.point_at.Tie as tie
 
 mul-at : tie.Need-mul-at
 mul-at c = search needs
 
-mul-new : tie.Need-mul-new
-mul-new c = search needs
+mul-t4 : tie.Need-mul-t4
+mul-t4 c = search needs
 
-shared-slice-read-new : tie.Need-shared-slice-read-new
-shared-slice-read-new c = search needs
+shared-slice-read-t6 : tie.Need-shared-slice-read-t6
+shared-slice-read-t6 c = search needs
 
-add-new : tie.Need-add-new
-add-new c = search needs
+add-t7 : tie.Need-add-t7
+add-t7 c = search needs
 
-mul-new-2 : tie.Need-mul-new-2
-mul-new-2 c = search needs
+mul-t8 : tie.Need-mul-t8
+mul-t8 c = search needs
 
-shared-slice-read-new-2 : tie.Need-shared-slice-read-new-2
-shared-slice-read-new-2 c = search needs
+shared-slice-read-t10 : tie.Need-shared-slice-read-t10
+shared-slice-read-t10 c = search needs
 
-add-new-2 : tie.Need-add-new-2
-add-new-2 c = search needs
+add-t11 : tie.Need-add-t11
+add-t11 c = search needs
 
-mul-new-3 : tie.Need-mul-new-3
-mul-new-3 c = search needs
+mul-t12 : tie.Need-mul-t12
+mul-t12 c = search needs
 
-shared-slice-read-new-3 : tie.Need-shared-slice-read-new-3
-shared-slice-read-new-3 c = search needs
-
-new-requires : tie.Need-new-requires
-new-requires c κs = search needs
+shared-slice-read-t14 : tie.Need-shared-slice-read-t14
+shared-slice-read-t14 c = search needs
 
 returns : tie.Need-returns
-unfolding pointOf
-returns c = c .new .ensures
+returns c = refl
 
 pub point-at-spec : {M : Type 1} → statement M
-point-at-spec = tie.close (tie.spec mul-at mul-new shared-slice-read-new add-new mul-new-2 shared-slice-read-new-2 add-new-2 mul-new-3 shared-slice-read-new-3 new-requires returns)
+point-at-spec = tie.close (tie.spec mul-at mul-t4 shared-slice-read-t6 add-t7 mul-t8 shared-slice-read-t10 add-t11 mul-t12 shared-slice-read-t14 returns)
