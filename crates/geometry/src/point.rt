@@ -12,9 +12,6 @@ pub struct Point3D {
     pub z: f64,
 }
 
-// The longest chord that the walk keeps and, but for the closing chord, the check passes.
-pub const LONGEST_CHORD: f64 = 0.2;
-
 impl Point3D {
     pub fn new(x: f64, y: f64, z: f64) -> Point3D
         ensures { λ r. ⌜ r ≡ pointOf x y z ⌝ }
