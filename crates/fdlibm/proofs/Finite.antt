@@ -13,7 +13,7 @@ use Rattle.number.specs.Helpers.{one, half}
 use Rattle.number.specs.Words.{highWord}
 use Rattle.number.proofs.Bounded.{Under, lift, under-finite, plus, minus, times, neg-under, constant, bits-under, word-under}
 use Rattle.reduction.specs.declared.Reduction.{Reduction}
-use Rattle.reduction.specs.Reduction.{remPio2}
+use Rattle.reduction.specs.Reduction.{reach, remPio2}
 use Rattle.reduction.proofs.Laws.{Left, LeftOf, zero-under, rem-under}
 use Rattle.fdlibm.specs.Kernel.{S1, sinSeries, cosSeries, kernelSin, kernelCos, qxOf}
 use Rattle.fdlibm.specs.Sine.{sinAt, cosAt, sinOf, cosOf}
@@ -115,7 +115,7 @@ module _ (a : Reduction) (l : Left a) where
   cos-at-under : Under 650 (cosAt a)
   cos-at-under = cos-at-is (Under 650) (λ x. neg-under) a s-under c-under
 
-module _ (x : Float) (f : T (fits binary64 x)) (h : highWord x ≤ 0x413921fb) where
+module _ (x : Float) (f : T (fits binary64 x)) (h : highWord x ≤ reach) where
   x-under : Under 21 x
   x-under = word-under x 20 f (lt-of-le-of-lt h (lit< tt)) (lit≤ tt)
 

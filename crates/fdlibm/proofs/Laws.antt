@@ -18,12 +18,12 @@ use Rattle.number.proofs.Fields.{at, fields}
 use Rattle.reduction.specs.declared.Reduction.{Reduction}
 use Rattle.reduction.specs.declared.Reduced.{Reduced}
 use Rattle.reduction.specs.declared.Reduced.the-variants.{To, Beyond}
-use Rattle.reduction.specs.Reduction.{remPio2}
+use Rattle.reduction.specs.Reduction.{reach, remPio2}
 use Rattle.reduction.proofs.Laws.{rem-beyond}
 use Rattle.fdlibm.specs.Kernel.{kernelSin, kernelCos}
 use Rattle.fdlibm.specs.Sine.{sinOf, cosOf, sinAt, cosAt, inReach}
 
--- ---- beyond reach: every angle, infinity and NaN whose high word is above 413921fb
+-- ---- beyond reach: every angle, infinity and NaN whose high word is above `reach`
 
 -- a high word of 7ff00000 or more is that of an infinity or a NaN
 top-field : (b : ℕ) → 0x7ff00000 ≤ bitAnd (b / 2 ^ 32) 0x7fffffff → b % 2 ^ 63 / 2 ^ 52 ≡ 2047
@@ -45,7 +45,7 @@ less-itself x f h =
     let e : x ≡ at s 2047 (b % 2 ^ 52) = fields x f ∙ ap (λ (k : ℕ). at s k (b % 2 ^ 52)) (top-field b h) in
     ap (λ (y : Float). y ⊖ y) e ∙ top-less-itself s (b % 2 ^ 52)
 
-module _ (x : Float) (f : T (fits binary64 x)) (h : 0x413921fb < highWord x) where
+module _ (x : Float) (f : T (fits binary64 x)) (h : reach < highWord x) where
   not-small : leb (highWord x) 0x3fe921fb ≡ false
   not-small = lt-leb (highWord x) 0x3fe921fb (omega arith)
 

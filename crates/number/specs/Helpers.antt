@@ -56,9 +56,13 @@ clampOf x lo hi = cond (x <? lo) lo (cond (hi <? x) hi x)
 abbrev pub magnitudeAtMost : Float → Float → Bool
 magnitudeAtMost x limit = absOf x ≤? limit
 
+-- "2^20": the greatest magnitude that 1, 17 and 18 let through
+abbrev pub greatestMagnitude : Float
+greatestMagnitude = bits 0x4130_0000_0000_0000
+
 -- of a number under 1, 17 and 18: neither "not finite" nor "above 2^20 in magnitude"
 unfoldable pub numberFit : Float → Bool
-numberFit x = magnitudeAtMost x (bits 0x4130_0000_0000_0000)
+numberFit x = magnitudeAtMost x greatestMagnitude
 
 -- equal in bits, "All NaNs count as one": the logic has one NaN with one pattern, and -0 has another pattern than +0
 unfoldable pub sameBits : Float → Float → Bool

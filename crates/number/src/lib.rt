@@ -14,6 +14,9 @@ pub use words::sign_bit;
 // The smallest normal number, the Rust's `f64::MIN_POSITIVE`.
 pub const MIN_POSITIVE: f64 = 2.2250738585072014e-308;
 
+// 2^20, the greatest magnitude that refusals 1, 17 and 18 let through.
+const GREATEST: f64 = 1048576.0;
+
 // The bits of a number. The compiled code's NaNs may have any pattern, so one pattern stands for them all.
 pub fn to_bits(x: f64) -> u64
     ensures { λ r. ⌜ r ≡ toBits binary64 x ⌝ }
@@ -105,11 +108,11 @@ pub fn magnitude_at_most(x: f64, limit: f64) -> bool
     abs(x) <= limit
 }
 
-// Finite, and at most 2^20 in magnitude: what refusals 1, 17 and 18 let through.
+// Finite, and at most 2^20 in magnitude.
 pub fn number_fit(x: f64) -> bool
     ensures { λ r. ⌜ r ≡ numberFit x ⌝ }
 {
-    magnitude_at_most(x, 1048576.0)
+    magnitude_at_most(x, GREATEST)
 }
 
 // Equal in bits: -0 and +0 differ, and all NaNs are one.

@@ -19,14 +19,14 @@ use Rattle.reduction.specs.declared.Difference.{Difference}
 use Rattle.reduction.specs.declared.Reduced.{Reduced}
 use Rattle.reduction.specs.declared.Reduced.the-variants.{To, Beyond}
 use Rattle.reduction.specs.Reduction.{npio2hw, invpio2, pio2-2, pio2-2t, pio2-3, pio2-3t, aboveOf, belowOf, firstDifference, nextDifference, carefulOf}
-use Rattle.reduction.specs.Reduction.{refinedOf, mediumOf, negatedOf, remPio2}
+use Rattle.reduction.specs.Reduction.{refinedOf, mediumOf, negatedOf, reach, remPio2}
 use Rattle.reduction.proofs.Truncation.{cut-most}
 
-pub rem-beyond : (x : Float) → 0x413921fb < highWord x → highWord x < 0x7ff00000 → remPio2 x ≡ Beyond
+pub rem-beyond : (x : Float) → reach < highWord x → highWord x < 0x7ff00000 → remPio2 x ≡ Beyond
 unfolding remPio2
 rem-beyond x h l =
     let w = highWord x in
-    rw (lt-leb w 0x3fe921fb (omega arith), le-ltb w 0x4002d97c (omega arith), lt-leb w 0x413921fb h, lt-leb 0x7ff00000 w l)
+    rw (lt-leb w 0x3fe921fb (omega arith), le-ltb w 0x4002d97c (omega arith), lt-leb w reach h, lt-leb 0x7ff00000 w l)
 
 abbrev Parted : ℕ → Difference → Type 0
 Parted k d = Under k (d .r) × Under k (d .w)
@@ -113,13 +113,13 @@ pub zero-under : Under 44 (bits 0)
 unfolding ofBits
 zero-under = constant 0 44 tt tt
 
-pub rem-under : (x : Float) → highWord x ≤ 0x413921fb → Under 21 x → LeftOf (remPio2 x)
+pub rem-under : (x : Float) → highWord x ≤ reach → Under 21 x → LeftOf (remPio2 x)
 unfolding remPio2
 rem-under x h u =
     let ix = highWord x in
     let a = mediumOf (absOf x) ix in
     let m = medium-under (absOf x) ix (abs-under u) in
-    rw (le-leb (highWord x) 0x413921fb h)
+    rw (le-leb (highWord x) reach h)
     (pick-is LeftOf (leb ix 0x3fe921fb) (lift 44 tt u, zero-under)
     (pick-is LeftOf (ltb ix 0x4002d97c) (pick-is Left (eqb (signBit x) 0) (above-under x ix u) (below-under x ix u))
     (pick-is Left (eqb (signBit x) 0) m (back-under a m))))

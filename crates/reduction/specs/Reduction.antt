@@ -101,12 +101,16 @@ mediumOf t ix =
 unfoldable pub negatedOf : Reduction → Reduction
 negatedOf a = record { quadrant = bitAnd (4 - bitAnd (a .quadrant) 3) 3; y0 = neg (a .y0); y1 = neg (a .y1) }
 
--- __ieee754_rem_pio2(x, y): n modulo 4 and y, or `Beyond` ("An angle is in reach when the upper 32 bits of its magnitude are at most hexadecimal 413921fb")
+-- "An angle is in reach when the upper 32 bits of its magnitude are at most hexadecimal 413921fb"
+abbrev pub reach : ℕ
+reach = 0x413921fb
+
+-- __ieee754_rem_pio2(x, y): n modulo 4 and y, or `Beyond`
 unfoldable pub remPio2 : Float → Reduced
 remPio2 x =
     let ix = highWord x in
     let a = mediumOf (absOf x) ix in
     pick (leb ix 0x3fe921fb) (To (record { quadrant = 0; y0 = x; y1 = bits 0 }))
     (pick (ltb ix 0x4002d97c) (To (pick (eqb (signBit x) 0) (aboveOf x ix) (belowOf x ix)))
-    (pick (leb ix 0x413921fb) (To (pick (eqb (signBit x) 0) a (negatedOf a)))
+    (pick (leb ix reach) (To (pick (eqb (signBit x) 0) a (negatedOf a)))
     (pick (leb 0x7ff00000 ix) (To (record { quadrant = 0; y0 = x ⊖ x; y1 = x ⊖ x })) Beyond)))

@@ -25,6 +25,9 @@ struct Difference {
     w: f64,
 }
 
+// The greatest high word of an angle in reach.
+const REACH: u64 = 0x4139_21fb;
+
 const INVPIO2: f64 = 6.36619772367581382433e-01;
 
 const PIO2_1: f64 = 1.57079632673412561417e+00;
@@ -207,7 +210,7 @@ pub fn rem_pio2(x: f64) -> Reduced
         } else {
             Reduced::To(near_below(x, ix))
         }
-    } else if ix <= 0x4139_21fb {
+    } else if ix <= REACH {
         let a = medium(number::abs(x), ix);
         if sign == 0 {
             Reduced::To(a)
