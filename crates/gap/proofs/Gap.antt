@@ -142,14 +142,14 @@ exact-is p q =
     let units : (a b : Float) → natAbs (inUnits a -ℤ inUnits b) ≡ between a b = λ a b. apart-is (neg? a) (neg? b) (mag a) (mag b) in
     rw (units (p .x) (q .x), units (p .y) (q .y), units (p .z) (q .z))
 
-turned : (p q : Point3D) (c : Float) → T (distanceOf p q ≤? c) → T (sqrtOf (squares (p .x ⊖ q .x) (p .y ⊖ q .y) (p .z ⊖ q .z)) ≤? c)
+exchanged : (p q : Point3D) (c : Float) → T (distanceOf p q ≤? c) → T (sqrtOf (squares (p .x ⊖ q .x) (p .y ⊖ q .y) (p .z ⊖ q .z)) ≤? c)
 unfolding distanceOf squares
-turned p q c l = subst (λ (k : Float). T (k ≤? c)) (distance-swap p q) l
+exchanged p q c l = subst (λ (k : Float). T (k ≤? c)) (distance-swap p q) l
 
 -- Where the computed gap is at most a finite number, all six coordinates are finite.
 pub gap-finite : (p q : Point3D) (c : Float) → T (finite c) → T (distanceOf p q ≤? c) → PointFinite p × PointFinite q
 gap-finite p q c h l =
-    let t = turned p q c l in
+    let t = exchanged p q c l in
     let x = finite-x (p .x) (p .y) (p .z) (q .x) (q .y) (q .z) c h t in
     let y = finite-y (p .x) (p .y) (p .z) (q .x) (q .y) (q .z) c h t in
     let z = finite-z (p .x) (p .y) (p .z) (q .x) (q .y) (q .z) c h t in
@@ -182,7 +182,7 @@ pub exact-gap : (p q : Point3D) (c : Float) → PointFits p → PointFits q → 
 exact-gap p q c fp fq low high l =
     let h = finite-between c low high in
     subst (λ (k : ℕ). 2 ^ 50 * k ≤ (2 ^ 50 + 1) * (mag c * mag c)) (sym (exact-is p q))
-    (law (p .x) (p .y) (p .z) (q .x) (q .y) (q .z) c h (turned p q c l) (fp .x-fits) (fp .y-fits) (fp .z-fits) (fq .x-fits) (fq .y-fits) (fq .z-fits) (least-under c h low))
+    (law (p .x) (p .y) (p .z) (q .x) (q .y) (q .z) c h (exchanged p q c l) (fp .x-fits) (fp .y-fits) (fp .z-fits) (fq .x-fits) (fq .y-fits) (fq .z-fits) (least-under c h low))
 
 -- ---- refusal 5, taken apart
 pub fit-tolerance : (t : Tolerance) → T (toleranceFit t) → T (leastConfusion ≤? t .confusion) × T (t .confusion ≤? one)

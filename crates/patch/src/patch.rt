@@ -4,7 +4,8 @@ use geometry::Vector3D;
 use refusal::Refusal;
 use refusal::Verdict;
 ghost use mathlib.Core.Path.{_≡_};
-ghost use Rattle.patch.specs.Patch.{vectorFit, frameFit, oneFits, bothFit, bothPositive, coneFits, numbersFit, sizesFit, uIsAngle, vIsAngle, windowFit, markFit, fitnessOf, windowHolds, insideOf, boundedOf, withinBounds};
+ghost use Rattle.patch.specs.Patch.{vectorFit, frameFit, oneFits, bothFit, bothPositive, coneFits, numbersFit, sizesFit, windowFit};
+ghost use Rattle.patch.specs.Patch.{uIsAngle, vIsAngle, markFit, fitnessOf, windowHolds, insideOf, boundedOf, withinBounds};
 
 // A parameter's window and turn mark. A marked parameter has a period: its window is tested by fitness and then not applied.
 pub struct Window {
