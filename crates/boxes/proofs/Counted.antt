@@ -7,22 +7,26 @@ use Prim.Native.Nat.{ℕ, _+_, _-_, _*_, _/_, _%_, _<_}
 use native.Mathlib.Omega.{arith}
 use lib.Dec.{ltb}
 use lib.Ieee.{Float}
-use borrow.Author.Tests.{ltb-true, ltb-false, le-ltb, le-leb, not-false}
+use borrow.Author.Tests.{ltb-true, ltb-false, le-leb, not-false, not-true}
 use Rattle.loops.specs.Loop.{pick}
 use Rattle.loops.proofs.Any.{any-found, any-at, any-none, any-fails}
-use Rattle.groups.specs.Groups.{width, fromGroup, holdsOf}
-use Rattle.groups.proofs.Groups.{holds-length}
+use Rattle.groups.specs.Groups.{width, countFits, fromGroup, holdsOf}
+use Rattle.groups.proofs.Groups.{holds-length, count-fits, fits-count}
 use Rattle.groups.proofs.Rows.{point-from}
 use Rattle.geometry.specs.Tolerance.{toleranceFit}
 use Rattle.geometry.specs.declared.tolerance.Tolerance.{Tolerance}
 use Rattle.refusal.specs.declared.Refusal.the-variants as refusal
+use Rattle.refusal.specs.declared.Verdict.{Verdict}
+use Rattle.refusal.specs.declared.Verdict.the-variants as verdict
+use Rattle.refusal.proofs.Laws.{number-positive}
+use Rattle.refusal.proofs.Order.{asked-held, first-passed}
 use Rattle.boxes.specs.declared.boxtree.Aabb.{Aabb}
 use Rattle.boxes.specs.Box.{boxesApart}
 use Rattle.boxes.specs.Bounds.{boundsOf}
-use Rattle.boxes.specs.Crosses.{segmentMeets, someSegment, runCrosses, runsOf, runStart, runPoints, runAt, someRun, grownOf, crossesOf}
+use Rattle.boxes.specs.Crosses.{segmentMeets, someSegment, runCrosses, runLength, runsOf, runStart, runPoints, runAt, someRun, grownOf, crossesOf}
 use Rattle.boxes.specs.declared.crossing.Crossed.{Crossed}
 use Rattle.boxes.specs.declared.crossing.Crossed.the-variants.{Yes, No, Refused}
-use Rattle.boxes.specs.Crossing.{boxFit, unfitAt, someUnfit, refusalOf, crossedOf, crossingOf}
+use Rattle.boxes.specs.Crossing.{boxFit, unfitAt, someUnfit, refusalOf, crossedOf, crossingTests, crossingFitness, answerOf, crossingOf}
 use Rattle.boxes.specs.Counts.{runBounds, Counts, Fit}
 
 -- a test that keeps out: what passes it
@@ -37,17 +41,17 @@ segment-part l g f k =
     rw (point-from l f k, point-from l f (k + 1), e)
 
 -- the segments of a run: those below 16 that the trace has
-run-below : (count first k : ℕ) → k < runPoints count first - 1 → (k < 16) × (first + k + 1 < count)
-run-below count first k = go (ltb 17 (count - first)) refl
+run-below : (count first k : ℕ) → k < runPoints count first - 1 → (k < runLength) × (first + k + 1 < count)
+run-below count first k = go (ltb (runLength + 1) (count - first)) refl
   where
-    go : (t : Bool) → ltb 17 (count - first) ≡ t → k < pick t 17 (count - first) - 1 → (k < 16) × (first + k + 1 < count)
-    go true e h = let l = ltb-true 17 (count - first) e in (omega arith, omega arith)
-    go false e h = let l = ltb-false 17 (count - first) e in (omega arith, omega arith)
+    go : (t : Bool) → ltb (runLength + 1) (count - first) ≡ t → k < pick t (runLength + 1) (count - first) - 1 → (k < runLength) × (first + k + 1 < count)
+    go true e h = let l = ltb-true (runLength + 1) (count - first) e in (omega arith, omega arith)
+    go false e h = let l = ltb-false (runLength + 1) (count - first) e in (omega arith, omega arith)
 
-run-reaches : (count first k : ℕ) → k < 16 → first + k + 1 < count → k < runPoints count first - 1
-run-reaches count first k h l = go (ltb 17 (count - first))
+run-reaches : (count first k : ℕ) → k < runLength → first + k + 1 < count → k < runPoints count first - 1
+run-reaches count first k h l = go (ltb (runLength + 1) (count - first))
   where
-    go : (t : Bool) → k < pick t 17 (count - first) - 1
+    go : (t : Bool) → k < pick t (runLength + 1) (count - first) - 1
     go true = omega arith
     go false = omega arith
 
@@ -62,8 +66,8 @@ module _ (l : List Float) (count : ℕ) (b : Aabb) (confusion : Float) where
       let q = past (boxesApart (runBounds l count (r .0)) g) (r .3) in
       let k = any-found (segmentMeets (fromGroup width (runStart (r .0)) l) g) 0 (runPoints count (runStart (r .0)) - 1) (q .1) in
       let s = run-below count (runStart (r .0)) (k .0) (k .2) in
-      let n : (16 * r .0 + k .0) / 16 ≡ r .0 = omega (arith, s .0) in (
-        16 * r .0 + k .0,
+      let n : (runStart (r .0) + k .0) / runLength ≡ r .0 = omega (arith, s .0) in (
+        runStart (r .0) + k .0,
         record {
           segment = s .1;
           whole = w .0;
@@ -77,29 +81,24 @@ module _ (l : List Float) (count : ℕ) (b : Aabb) (confusion : Float) where
   unfolding crossesOf someRun runCrosses someSegment
   counts-crosses i c =
       let g = grownOf b confusion in
-      let e : 16 * (i / 16) + i % 16 ≡ i = omega arith in
-      let s : segmentMeets l g (16 * (i / 16) + i % 16) ≡ true = rw e (c .meets) in
-      let k = any-at (segmentMeets (fromGroup width (runStart (i / 16)) l) g) 0 (runPoints count (runStart (i / 16)) - 1) (i % 16) (omega arith)
-      (run-reaches count (runStart (i / 16)) (i % 16) (omega arith) (omega (arith, c .segment)))
-      (segment-part l g (runStart (i / 16)) (i % 16) ∙ s) in
-      let r = any-at (runAt l count g) 0 (runsOf count) (i / 16) (omega arith) (omega (arith, c .segment)) (rw (c .run) k) in
+      let q = i / runLength in
+      let m = i % runLength in
+      let e : runStart q + m ≡ i = omega arith in
+      let s : segmentMeets l g (runStart q + m) ≡ true = rw e (c .meets) in
+      let k = any-at (segmentMeets (fromGroup width (runStart q) l) g) 0 (runPoints count (runStart q) - 1) m (omega arith)
+      (run-reaches count (runStart q) m (omega arith) (omega (arith, c .segment)))
+      (segment-part l g (runStart q) m ∙ s) in
+      let r = any-at (runAt l count g) 0 (runsOf count) q (omega arith) (omega (arith, c .segment)) (rw (c .run) k) in
       rw (c .whole) r
 
   -- `crosses` is 01's sentence: yes exactly when some segment counts
   pub crosses-counts : (crossesOf l count b confusion ≡ true) ↔ ((i : ℕ) × Counts l count (grownOf b confusion) i)
   crosses-counts = (counts-found, λ c. counts-crosses (c .0) (c .1))
 
--- refusal 0 is every test passed, over what the tests said
-stages : (t h a z u f : Bool) (x : Crossed)
-    → refusalOf (pick t (pick h (pick a (Refused refusal.Claim) (pick z (Refused refusal.Claim) (pick u (Refused refusal.Coordinate) (pick f x (Refused refusal.BoxNumber))))) (Refused refusal.Lent)) (Refused refusal.Tolerance)) ≡ 0
-    → (t ≡ true) × (h ≡ true) × (a ≡ false) × (z ≡ false) × (u ≡ false) × (f ≡ true)
-stages false h a z u f x e = absurd (omega arith)
-stages true false a z u f x e = absurd (omega arith)
-stages true true true z u f x e = absurd (omega arith)
-stages true true false true u f x e = absurd (omega arith)
-stages true true false false true f x e = absurd (omega arith)
-stages true true false false false false x e = absurd (omega arith)
-stages true true false false false true x e = (refl, refl, refl, refl, refl, refl)
+-- where a trace is not refused, the tests passed
+passed-of : (v : Verdict) (t : Bool) → refusalOf (answerOf v t) ≡ 0 → v ≡ verdict.Passed
+passed-of verdict.Passed t e = refl
+passed-of (verdict.Refused r) t e = let h = number-positive r in absurd (omega (arith, h, e))
 
 answered : (t : Bool) → refusalOf (pick t Yes No) ≡ 0
 answered true = refl
@@ -116,25 +115,36 @@ crossed-answer No e = refl
 crossed-answer (Refused r) e = let z : _≡_ {A = ℕ} 0 1 = cc in absurd (omega arith)
 
 module _ (tol : Tolerance) (l : List Float) (count : ℕ) (b : Aabb) where
+  -- the tests pass exactly where nothing refuses
+  pub tests-fit : crossingFitness tol l count b ≡ verdict.Passed → Fit tol l count b
+  unfolding crossingFitness someUnfit
+  tests-fit e =
+      let s = first-passed (crossingTests tol l count b) e in
+      let c = count-fits count (asked-held (countFits count) refusal.Claim (s .1 .1 .0)) in
+      let u = asked-held (not (someUnfit l count)) refusal.Coordinate (s .1 .1 .1 .0) in
+      record {
+        tolerance = asked-held (toleranceFit tol) refusal.Tolerance (s .0);
+        lent = holds-length width l count (asked-held (holdsOf width l count) refusal.Lent (s .1 .0));
+        least = c .0;
+        most = c .1;
+        coordinates = λ i h. not-false _ (any-fails (unfitAt l) 0 count (not-true (someUnfit l count) u) i (omega arith) h);
+        corners = asked-held (boxFit b) refusal.BoxNumber (s .1 .1 .1 .1 .0);
+      }
+
+  fit-tests : Fit tol l count b → crossingFitness tol l count b ≡ verdict.Passed
+  unfolding crossingFitness someUnfit holdsOf
+  fit-tests f =
+      let n = any-none (unfitAt l) 0 count (λ i z h. ap not (f .coordinates i h)) in
+      rw (f .tolerance, le-leb _ _ (f .lent), fits-count count (f .least) (f .most), n, f .corners)
+
   -- where nothing refuses, `crosses` answers
   pub fit-answer : Fit tol l count b → crossingOf tol l count b ≡ pick (crossesOf l count b (tol .confusion)) Yes No
-  unfolding crossingOf someUnfit holdsOf
-  fit-answer f =
-      let n = any-none (unfitAt l) 0 count (λ i z h. ap not (f .coordinates i h)) in
-      rw (f .tolerance, le-leb _ _ (f .lent), le-ltb _ _ (f .least), le-ltb _ _ (f .most), n, f .corners)
+  unfolding crossingOf
+  fit-answer f = rw (fit-tests f)
 
-  pub fit-of : refusalOf (crossingOf tol l count b) ≡ 0 → Fit tol l count b
-  unfolding crossingOf someUnfit
-  fit-of e =
-      let s = stages (toleranceFit tol) (holdsOf width l count) (ltb count 4) (ltb 4001 count) (someUnfit l count) (boxFit b) _ e in
-      record {
-        tolerance = s .0;
-        lent = holds-length width l count (s .1);
-        least = ltb-false _ _ (s .2);
-        most = ltb-false _ _ (s .3);
-        coordinates = λ i h. not-false _ (any-fails (unfitAt l) 0 count (s .4) i (omega arith) h);
-        corners = s .5;
-      }
+  fit-of : refusalOf (crossingOf tol l count b) ≡ 0 → Fit tol l count b
+  unfolding crossingOf
+  fit-of e = tests-fit (passed-of (crossingFitness tol l count b) (crossesOf l count b (tol .confusion)) e)
 
   -- no number exactly when none of 5, 8, 12, 18, 17 refuses
   pub answers-when : (refusalOf (crossingOf tol l count b) ≡ 0) ↔ Fit tol l count b

@@ -1,4 +1,4 @@
-pub mod Turns
+pub mod Iterations
 pub mod Counted
 pub mod Computing
 pub mod Wreck

@@ -22,7 +22,7 @@ spanFrom lo hi = pick (hi <? lo) Misses (Meets (record { lo = lo; hi = hi }))
 abbrev pub narrowed : Float → Float → Span → Clipped
 narrowed t0 t1 s = spanFrom (maxOf (s .lo) (minOf t0 t1)) (minOf (s .hi) (maxOf t0 t1))
 
--- one turn of the Rust's loop over the axes
+-- one iteration of the Rust's loop over the axes
 unfoldable pub clipOf : Float → Float → Float → Float → Span → Clipped
 clipOf from d low high s =
     pick (d ==? bits 0)
@@ -30,9 +30,9 @@ clipOf from d low high s =
     (narrowed ((low ⊖ from) ⊘ d) ((high ⊖ from) ⊘ d) s)
 
 -- the next axis, unless one is missed
-abbrev pub andThen : (Span → Clipped) → Clipped → Clipped
-andThen next (Meets s) = next s
-andThen next Misses = Misses
+abbrev pub nextAxis : (Span → Clipped) → Clipped → Clipped
+nextAxis next (Meets s) = next s
+nextAxis next Misses = Misses
 
 -- what is answered after the last axis
 abbrev pub met : Clipped → Bool
@@ -42,6 +42,6 @@ met Misses = false
 -- the Rust's loop over the axes, x then y then z
 unfoldable pub segmentMeetsBox : Point3D → Point3D → Aabb → Bool
 segmentMeetsBox p q b =
-    met (andThen (clipOf (p .z) (q .z ⊖ p .z) (b .low .z) (b .high .z))
-    (andThen (clipOf (p .y) (q .y ⊖ p .y) (b .low .y) (b .high .y))
+    met (nextAxis (clipOf (p .z) (q .z ⊖ p .z) (b .low .z) (b .high .z))
+    (nextAxis (clipOf (p .y) (q .y ⊖ p .y) (b .low .y) (b .high .y))
     (clipOf (p .x) (q .x ⊖ p .x) (b .low .x) (b .high .x) whole)))

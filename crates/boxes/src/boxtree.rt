@@ -12,18 +12,14 @@ pub struct Aabb {
 fn apart_on(low: f64, high: f64, from: f64, to: f64) -> bool
     ensures { λ r. ⌜ r ≡ apartOn low high from to ⌝ }
 {
-    if to < low { true } else { high < from }
+    to < low || high < from
 }
 
 // Whether the boxes are apart: the Rust's `boxes_apart` with a gap of 0. Boxes that touch are not, nor is one with a NaN on that axis.
 pub fn boxes_apart(a: Aabb, b: Aabb) -> bool
     ensures { λ r. ⌜ r ≡ boxesApart a b ⌝ }
 {
-    if apart_on(a.low.x, a.high.x, b.low.x, b.high.x) {
-        return true;
-    }
-    if apart_on(a.low.y, a.high.y, b.low.y, b.high.y) {
-        return true;
-    }
-    apart_on(a.low.z, a.high.z, b.low.z, b.high.z)
+    apart_on(a.low.x, a.high.x, b.low.x, b.high.x)
+        || (apart_on(a.low.y, a.high.y, b.low.y, b.high.y)
+            || apart_on(a.low.z, a.high.z, b.low.z, b.high.z))
 }

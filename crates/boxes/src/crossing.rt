@@ -3,11 +3,12 @@ use crate::marching;
 use geometry::Tolerance;
 use groups::row::point_at;
 use refusal::Refusal;
+use refusal::Verdict;
 ghost use mathlib.Core.Path.{_≡_};
 ghost use Prim.Native.Nat.{_*_, _≤_};
 ghost use lib.ListN.{length};
 ghost use Rattle.groups.specs.Groups.{width};
-ghost use Rattle.boxes.specs.Crossing.{sidesFit, boxFit, someUnfit, crossingOf};
+ghost use Rattle.boxes.specs.Crossing.{sidesFit, boxFit, someUnfit, crossingFitness, crossingOf};
 
 // The answer of the public crossing.
 pub enum Crossed {
@@ -22,16 +23,7 @@ fn sides_fit(b: Aabb) -> bool
 {
     let low = b.low;
     let high = b.high;
-    if high.x < low.x {
-        return false;
-    }
-    if high.y < low.y {
-        return false;
-    }
-    if high.z < low.z {
-        return false;
-    }
-    true
+    !(high.x < low.x) && (!(high.y < low.y) && !(high.z < low.z))
 }
 
 // What refusal 17 lets through.
@@ -40,11 +32,7 @@ fn box_fit(b: Aabb) -> bool
 {
     let low = b.low;
     let high = b.high;
-    if low.is_fit() {
-        if high.is_fit() { sides_fit(b) } else { false }
-    } else {
-        false
-    }
+    low.is_fit() && (high.is_fit() && sides_fit(b))
 }
 
 // Whether refusal 18 stops one of the points.
@@ -61,31 +49,42 @@ fn some_unfit(points: &[f64], count: usize) -> bool
     false
 }
 
-// Whether the trace of `count` points passes through the box, grown by 8000 times confusion. Refusals 5, 8, 12, 18, 17, in this order.
+// Refusals 5, 8, 12 (count only), 18 and 17, in this order.
+fn crossing_fitness(tol: Tolerance, points: &[f64], count: usize, b: Aabb) -> Verdict
+    ensures { λ r. ⌜ r ≡ crossingFitness tol (now (points .entry)) count b ⌝ }
+{
+    if !tol.is_fit() {
+        return Verdict::Refused(Refusal::Tolerance);
+    }
+    if !groups::holds(points, count) {
+        return Verdict::Refused(Refusal::Lent);
+    }
+    if !groups::count_fits(count) {
+        return Verdict::Refused(Refusal::Claim);
+    }
+    if some_unfit(points, count) {
+        return Verdict::Refused(Refusal::Coordinate);
+    }
+    if box_fit(b) {
+        Verdict::Passed
+    } else {
+        Verdict::Refused(Refusal::BoxNumber)
+    }
+}
+
+// Whether the trace of `count` points passes through the box, grown by 8000 times confusion, or the refusal.
 pub fn crossing(tol: Tolerance, points: &[f64], count: usize, b: Aabb) -> Crossed
     ensures { λ r. ⌜ r ≡ crossingOf tol (now (points .entry)) count b ⌝ }
 {
-    if !tol.is_fit() {
-        return Crossed::Refused(Refusal::Tolerance);
-    }
-    if !groups::holds(points, count) {
-        return Crossed::Refused(Refusal::Lent);
-    }
-    if count < groups::LEAST_POINTS {
-        return Crossed::Refused(Refusal::Claim);
-    }
-    if groups::MOST_POINTS < count {
-        return Crossed::Refused(Refusal::Claim);
-    }
-    if some_unfit(points, count) {
-        return Crossed::Refused(Refusal::Coordinate);
-    }
-    if !box_fit(b) {
-        return Crossed::Refused(Refusal::BoxNumber);
-    }
-    if marching::crosses(points, count, b, tol.confusion) {
-        Crossed::Yes
-    } else {
-        Crossed::No
+    let fitness = crossing_fitness(tol, points, count, b);
+    match fitness {
+        Verdict::Refused(refusal) => Crossed::Refused(refusal),
+        Verdict::Passed => {
+            if marching::crosses(points, count, b, tol.confusion) {
+                Crossed::Yes
+            } else {
+                Crossed::No
+            }
+        }
     }
 }

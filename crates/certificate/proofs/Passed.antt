@@ -17,9 +17,9 @@ use Rattle.loops.proofs.Any.{cases}
 use Rattle.loops.proofs.Loop.{searched-out, searched-end, searched-step}
 use Rattle.number.specs.Operators.{_≤?_}
 use Rattle.groups.specs.declared.row.Row.{Row}
-use Rattle.groups.specs.Groups.{width, leastPoints, mostPoints, holdsOf}
+use Rattle.groups.specs.Groups.{width, leastPoints, mostPoints, countFits, holdsOf}
 use Rattle.groups.specs.Row.{numbersOf, pointIn, rowOf}
-use Rattle.groups.proofs.Groups.{holds-length}
+use Rattle.groups.proofs.Groups.{both, holds-length, count-fits, fits-count}
 use Rattle.refusal.specs.declared.Refusal.the-variants as refusal
 use Rattle.refusal.specs.declared.Verdict.{Verdict}
 use Rattle.refusal.specs.declared.Verdict.the-variants.{Passed, Refused}
@@ -34,10 +34,6 @@ use Rattle.patch.proofs.Fitness.{pair-passed, passed-pair}
 use Rattle.certificate.specs.Passes.{parametersIn, closingChord, PointPasses, ClosedAs, claimed-open, forward, backward, Passes}
 use Rattle.certificate.specs.Check.{finitePoint, samePoint, ownOf, chordFits, pointTests, pointVerdict, stopped, pointBody, allPassed, pointsVerdict, sameRow, closingSo, claimSo, checkTests, checkOf}
 use Rattle.certificate.proofs.Bits.{Binary64, AllFit, point-fits, point-equal, equal-point, row-fits, row-equal, equal-row, fresh-fits}
-
-both : (x y : Bool) → x && y ≡ true → (x ≡ true) × (y ≡ true)
-both true y e = (refl, e)
-both false y e = let z : _≡_ {A = ℕ} 0 1 = cc in absurd (omega arith)
 
 -- ---- one point
 
@@ -174,10 +170,10 @@ module _ (rows : ℕ → Row) (count start closing : ℕ) where
   unfolding claimSo
   claimed e =
       let c = closingSo rows count start closing in
-      let s = both (leb leastPoints count) (leb count mostPoints && (ltb start count && c)) e in
-      let t = both (leb count mostPoints) (ltb start count && c) (s .1) in
-      let u = both (ltb start count) c (t .1) in
-      (leb-true leastPoints count (s .0), leb-true count mostPoints (t .0), ltb-true start count (u .0), u .1)
+      let s = both (countFits count) (ltb start count && c) e in
+      let n = count-fits count (s .0) in
+      let t = both (ltb start count) c (s .1) in
+      (n .0, n .1, ltb-true start count (t .0), t .1)
 
 -- ---- the whole
 
@@ -210,4 +206,4 @@ module _ (a b : Patch) (tol : Tolerance) (l : List Float) (count start closing :
   unfolding checkOf claimSo holdsOf
   passes-checked p =
       let c = closed-is (rowOf l) count start closing (p .closed) in
-      rw (passed-pair a b tol (p .fitA) (p .fitB) (is-true _ (p .tolerance)), le-leb _ _ (p .lent), le-leb _ _ (p .least), le-leb _ _ (p .most), lt-ltb _ _ (p .among), c, pass-points a b tol (rowOf l) count closing (p .points) (λ i h z k. p .chords i z h k))
+      rw (passed-pair a b tol (p .fitA) (p .fitB) (is-true _ (p .tolerance)), le-leb _ _ (p .lent), fits-count count (p .least) (p .most), lt-ltb _ _ (p .among), c, pass-points a b tol (rowOf l) count closing (p .points) (λ i h z k. p .chords i z h k))

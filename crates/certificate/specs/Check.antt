@@ -9,7 +9,7 @@ use Rattle.loops.specs.Loop.{pick, Flow, on, out, searched}
 use Rattle.number.specs.Operators.{_≤?_}
 use Rattle.number.specs.Helpers.{sameBits}
 use Rattle.groups.specs.declared.row.Row.{Row}
-use Rattle.groups.specs.Groups.{width, leastPoints, mostPoints, holdsOf}
+use Rattle.groups.specs.Groups.{width, countFits, holdsOf}
 use Rattle.groups.specs.Row.{numbersOf, pointIn, rowOf}
 use Rattle.refusal.specs.declared.Refusal.the-variants as refusal
 use Rattle.refusal.specs.declared.Verdict.{Verdict}
@@ -104,8 +104,7 @@ closingSo rows count start closing =
 
 -- what 12 lets through
 unfoldable pub claimSo : (ℕ → Row) → ℕ → ℕ → ℕ → Bool
-claimSo rows count start closing =
-    leb leastPoints count && (leb count mostPoints && (ltb start count && closingSo rows count start closing))
+claimSo rows count start closing = countFits count && (ltb start count && closingSo rows count start closing)
 
 -- ---- "Check: A, B, 5, 8, 12, then point by point 14, 13, 15, 16"
 abbrev pub checkTests : Patch → Patch → Tolerance → List Float → ℕ → ℕ → ℕ → List Verdict

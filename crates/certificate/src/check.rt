@@ -155,9 +155,7 @@ fn closing_so(points: &[f64], count: usize, start: usize, closing: usize) -> boo
 fn claim_so(points: &[f64], count: usize, start: usize, closing: usize) -> bool
     ensures { λ r. ⌜ r ≡ claimSo (rowOf (now (points .entry))) count start closing ⌝ }
 {
-    groups::LEAST_POINTS <= count
-        && (count <= groups::MOST_POINTS
-            && (start < count && closing_so(points, count, start, closing)))
+    groups::count_fits(count) && (start < count && closing_so(points, count, start, closing))
 }
 
 // Whether a trace of `count` points at the head of the list passes: refusals A's 1 to 4, B's, 5, 8, 12, then point by point 14, 13, 15, 16.

@@ -1,6 +1,6 @@
 -- The laws of groups in a flat list, for every width.
 use mathlib.Core.Path.{_≡_, refl, sym, subst, _∙_}
-use mathlib.Core.Bool.{Bool, true, false}
+use mathlib.Core.Bool.{Bool, true, false, _&&_}
 use mathlib.Core.List.{List}
 use Prim.Native.Nat.{ℕ, _-_, _*_, _/_, _≤_, _<_}
 use native.Mathlib.Omega.{arith}
@@ -9,7 +9,7 @@ use lib.ListN.{length, take, drop, length-drop}
 use lib.Seq.{take-all}
 use native.Mathlib.Nat.{mul-comm, le-div-iff-mul-le, div-lt-iff-lt-mul}
 use borrow.Author.Tests.{leb-true, leb-false, le-leb, lt-leb}
-use Rattle.groups.specs.Groups.{holdsOf}
+use Rattle.groups.specs.Groups.{leastPoints, mostPoints, countFits, holdsOf}
 
 -- the part of a slice from number k on, as the borrow checker writes it, is the list without the numbers before
 pub part-from : {A : Type 0} (k : ℕ) (l : List A) → take (length l - k) (drop k l) ≡ drop k l
@@ -28,3 +28,19 @@ holds-quotient w l count h = go (leb (w * count) (length l)) refl
 pub holds-length : {A : Type 0} (w : ℕ) (l : List A) (count : ℕ) → holdsOf w l count ≡ true → w * count ≤ length l
 unfolding holdsOf
 holds-length w l count e = leb-true _ _ e
+
+-- both parts of a conjunction hold
+pub both : (x y : Bool) → x && y ≡ true → (x ≡ true) × (y ≡ true)
+both true y e = (refl, e)
+both false y e = let z : _≡_ {A = ℕ} 0 1 = cc in absurd (omega arith)
+
+-- a count that 12 lets through, and back
+pub count-fits : (count : ℕ) → countFits count ≡ true → (leastPoints ≤ count) × (count ≤ mostPoints)
+unfolding countFits
+count-fits count e =
+    let s = both (leb leastPoints count) (leb count mostPoints) e in
+    (leb-true leastPoints count (s .0), leb-true count mostPoints (s .1))
+
+pub fits-count : (count : ℕ) → leastPoints ≤ count → count ≤ mostPoints → countFits count ≡ true
+unfolding countFits
+fits-count count h k = rw (le-leb leastPoints count h, le-leb count mostPoints k)

@@ -1,5 +1,5 @@
 -- Groups of one width in a flat list. Definitions only.
-use mathlib.Core.Bool.{Bool}
+use mathlib.Core.Bool.{Bool, _&&_}
 use mathlib.Core.List.{List}
 use Prim.Native.Nat.{ℕ, _*_}
 use lib.Dec.{leb}
@@ -9,13 +9,16 @@ use lib.ListN.{length, drop}
 abbrev pub width : ℕ
 width = 7
 
--- "count outside 4 to 4001": a trace has at least
+-- the least and the most points of a trace
 abbrev pub leastPoints : ℕ
 leastPoints = 4
 
--- and at most
 abbrev pub mostPoints : ℕ
 mostPoints = 4001
+
+-- not "count outside 4 to 4001"
+unfoldable pub countFits : ℕ → Bool
+countFits count = leb leastPoints count && leb count mostPoints
 
 -- the list from group i on
 abbrev pub fromGroup : {A : Type 0} → ℕ → ℕ → List A → List A

@@ -4,7 +4,7 @@ pub mod row;
 
 pub use row::Row;
 ghost use mathlib.Core.Path.{_≡_};
-ghost use Rattle.groups.specs.Groups.{width, holdsOf};
+ghost use Rattle.groups.specs.Groups.{width, countFits, holdsOf};
 
 // How many numbers a point has: x, y, z, then u, v on the first surface and u, v on the second.
 pub const WIDTH: usize = 7;
@@ -13,6 +13,13 @@ pub const WIDTH: usize = 7;
 pub const LEAST_POINTS: usize = 4;
 
 pub const MOST_POINTS: usize = 4001;
+
+// What refusal 12 lets through of a count.
+pub fn count_fits(count: usize) -> bool
+    ensures { λ r. ⌜ r ≡ countFits count ⌝ }
+{
+    LEAST_POINTS <= count && count <= MOST_POINTS
+}
 
 // Whether the list has a whole group for each of `count` points. No product is formed, so that no count is too large.
 pub fn holds(numbers: &[f64], count: usize) -> bool

@@ -11,7 +11,7 @@ use Rattle.loops.specs.Loop.{exits}
 use Rattle.number.specs.Operators.{bits}
 use Rattle.number.specs.Helpers.{one, absOf, numberFit, sameBits}
 use Rattle.sqrt.specs.Sqrt.{sqrtOf}
-use Rattle.groups.specs.Groups.{holdsOf}
+use Rattle.groups.specs.Groups.{countFits, holdsOf}
 use Rattle.groups.specs.Row.{rowOf}
 use Rattle.refusal.specs.declared.Refusal.the-variants as refusal
 use Rattle.geometry.specs.declared.tolerance.Tolerance.{Tolerance}
@@ -34,7 +34,7 @@ use Rattle.certificate.proofs.Passed.{checked-passes}
 
 -- opens what a check of planes needs
 unfoldable pub computing : Unit {0}
-unfolding checkOf claimSo closingSo sameNumbers pointsVerdict chordFits pointVerdict ownOf finitePoint sameBits absOf holdsOf rowOf exits toleranceFit pairFitness fitnessOf numbersFit sizesFit windowFit markFit uIsAngle vIsAngle frameFit vectorFit pointFit numberFit insideOf windowHolds evalPoint pointAtOf addVectorOf scaleOf pointOf vectorOf distanceOf sqrtOf Ieee.isNan Ieee.toBits Ieee.ofBits Ieee.add Ieee.sub Ieee.mul Ieee.div Ieee.lt Ieee.le Ieee.eq
+unfolding checkOf claimSo closingSo sameNumbers pointsVerdict chordFits pointVerdict ownOf finitePoint sameBits absOf holdsOf countFits rowOf exits toleranceFit pairFitness fitnessOf numbersFit sizesFit windowFit markFit uIsAngle vIsAngle frameFit vectorFit pointFit numberFit insideOf windowHolds evalPoint pointAtOf addVectorOf scaleOf pointOf vectorOf distanceOf sqrtOf Ieee.isNan Ieee.toBits Ieee.ofBits Ieee.add Ieee.sub Ieee.mul Ieee.div Ieee.lt Ieee.le Ieee.eq
 computing = tt
 
 -- ---- two planes that meet in the x axis, B raised by h; windows -1 to 1, no marks; confusion 2^-20

@@ -5,7 +5,7 @@ use denote.Ref.{now}
 use Rattle.loops.specs.Any.{anyIn}
 use Rattle.loops.proofs.Any.{any-again, any-leave, any-done}
 use Rattle.boxes.specs.Crossing.{unfitAt, someUnfit}
-use Rattle.boxes.proofs.Turns.{unfit-turn}
+use Rattle.boxes.proofs.Iterations.{unfit-iteration}
 use borrow.Author.Needs.{needs}
 use native.Mathlib.Omega.{arith}
 use Rattle.boxes.proofs.crossing.some_unfit.Statement.{statement}
@@ -31,7 +31,7 @@ returns : tie.Need-returns Inv-loop μ-loop
 returns c =
     let p = c .before .before .before .before in
     let g = p .before .before .args in
-    let e = unfit-turn (now (g .points)) (p .loop .i) (c .before .before .point-at .ensures) (c .before .is-fit .ensures) in
+    let e = unfit-iteration (now (g .points)) (p .loop .i) (c .before .before .point-at .ensures) (c .before .is-fit .ensures) in
     any-leave (unfitAt (now (g .points))) (p .loop .i) (g .count) (c .before .before .before .loop-test .taken) (e ∙ c .if1 .taken) (p .loop .inv .0)
 
 add-i : tie.Need-add-i Inv-loop μ-loop
@@ -44,7 +44,7 @@ loop-again : tie.Need-loop-again Inv-loop μ-loop
 loop-again c =
     let p = c .before .before .before .before in
     let g = p .before .before .args in
-    let e = unfit-turn (now (g .points)) (p .loop .i) (c .before .before .point-at .ensures) (c .before .is-fit .ensures) in
+    let e = unfit-iteration (now (g .points)) (p .loop .i) (c .before .before .point-at .ensures) (c .before .is-fit .ensures) in
     (any-again (unfitAt (now (g .points))) (p .loop .i) (g .count) (c .before .before .before .loop-test .taken) (e ∙ c .if1 .left) (p .loop .inv .0), omega arith)
 
 returns-2 : tie.Need-returns-2 Inv-loop μ-loop

@@ -5,7 +5,7 @@ use denote.Ref.{now}
 use Rattle.loops.specs.Any.{anyIn}
 use Rattle.loops.proofs.Any.{any-again, any-leave, any-done}
 use Rattle.boxes.specs.Crosses.{runStart, runAt, runsOf, someRun}
-use Rattle.boxes.proofs.Turns.{run-turn, run-holds}
+use Rattle.boxes.proofs.Iterations.{run-iteration, run-holds}
 use borrow.Author.Needs.{needs}
 use native.Mathlib.Omega.{arith}
 use Rattle.boxes.proofs.marching.some_run.Statement.{statement}
@@ -64,7 +64,7 @@ returns c =
     let g = p .before .before in
     let l = now (g .args .points) in
     let t = c .before .before .before .before .loop-test .taken in
-    let e = run-turn l (g .args .count) (g .args .b) (p .loop .r) (c .before .before .run-points .ensures) (c .before .run-crosses .ensures) in
+    let e = run-iteration l (g .args .count) (g .args .b) (p .loop .r) (c .before .before .run-points .ensures) (c .before .run-crosses .ensures) in
     any-leave (runAt l (g .args .count) (g .args .b)) (p .loop .r) (runsOf (g .args .count)) t (e ∙ c .if1 .taken) (p .loop .inv .0)
 
 add-r : tie.Need-add-r Inv-loop μ-loop
@@ -79,7 +79,7 @@ loop-again c =
     let g = p .before .before in
     let l = now (g .args .points) in
     let t = c .before .before .before .before .loop-test .taken in
-    let e = run-turn l (g .args .count) (g .args .b) (p .loop .r) (c .before .before .run-points .ensures) (c .before .run-crosses .ensures) in
+    let e = run-iteration l (g .args .count) (g .args .b) (p .loop .r) (c .before .before .run-points .ensures) (c .before .run-crosses .ensures) in
     (any-again (runAt l (g .args .count) (g .args .b)) (p .loop .r) (runsOf (g .args .count)) t (e ∙ c .if1 .left) (p .loop .inv .0), omega (arith, t))
 
 returns-2 : tie.Need-returns-2 Inv-loop μ-loop

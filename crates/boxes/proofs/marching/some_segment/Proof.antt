@@ -5,7 +5,7 @@ use denote.Ref.{now}
 use Rattle.loops.specs.Any.{anyIn}
 use Rattle.loops.proofs.Any.{any-again, any-leave, any-done}
 use Rattle.boxes.specs.Crosses.{segmentMeets, someSegment}
-use Rattle.boxes.proofs.Turns.{segment-turn}
+use Rattle.boxes.proofs.Iterations.{segment-iteration}
 use borrow.Author.Needs.{needs}
 use native.Mathlib.Omega.{arith}
 use Rattle.boxes.proofs.marching.some_segment.Statement.{statement}
@@ -40,7 +40,7 @@ returns : tie.Need-returns Inv-loop μ-loop
 returns c =
     let p = c .before .before .before .before .before in
     let g = p .before .before .args in
-    let e = segment-turn (now (g .points)) (g .b) (p .loop .i) (c .before .before .before .point-at .ensures) (c .before .before .point-at2 .ensures) (c .before .segment-meets-box .ensures) in
+    let e = segment-iteration (now (g .points)) (g .b) (p .loop .i) (c .before .before .before .point-at .ensures) (c .before .before .point-at2 .ensures) (c .before .segment-meets-box .ensures) in
     any-leave (segmentMeets (now (g .points)) (g .b)) (p .loop .i) (g .count - 1) (c .before .before .before .before .loop-test .taken) (e ∙ c .if1 .taken) (p .loop .inv .0)
 
 add-i : tie.Need-add-i Inv-loop μ-loop
@@ -53,7 +53,7 @@ loop-again : tie.Need-loop-again Inv-loop μ-loop
 loop-again c =
     let p = c .before .before .before .before .before in
     let g = p .before .before .args in
-    let e = segment-turn (now (g .points)) (g .b) (p .loop .i) (c .before .before .before .point-at .ensures) (c .before .before .point-at2 .ensures) (c .before .segment-meets-box .ensures) in
+    let e = segment-iteration (now (g .points)) (g .b) (p .loop .i) (c .before .before .before .point-at .ensures) (c .before .before .point-at2 .ensures) (c .before .segment-meets-box .ensures) in
     (any-again (segmentMeets (now (g .points)) (g .b)) (p .loop .i) (g .count - 1) (c .before .before .before .before .loop-test .taken) (e ∙ c .if1 .left) (p .loop .inv .0), omega arith)
 
 returns-2 : tie.Need-returns-2 Inv-loop μ-loop

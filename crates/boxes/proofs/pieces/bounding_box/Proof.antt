@@ -5,7 +5,7 @@ use denote.Ref.{now}
 use Rattle.loops.specs.Loop.{ranged}
 use Rattle.loops.proofs.Loop.{ranged-again, ranged-done}
 use Rattle.boxes.specs.Bounds.{coverAt, boundsOf}
-use Rattle.boxes.proofs.Turns.{cover-turn}
+use Rattle.boxes.proofs.Iterations.{cover-iteration}
 use borrow.Author.Needs.{needs}
 use native.Mathlib.Omega.{arith}
 use Rattle.boxes.proofs.pieces.bounding_box.Statement.{statement}
@@ -43,7 +43,7 @@ loop-again : tie.Need-loop-again Inv-loop μ-loop
 loop-again c =
     let p = c .before .before .before in
     let g = p .before .before .before .before .args in
-    let e = cover-turn (now (g .points)) (p .loop .i) (p .loop .b) (c .before .point-at2 .ensures) (c .cover .ensures) in
+    let e = cover-iteration (now (g .points)) (p .loop .i) (p .loop .b) (c .before .point-at2 .ensures) (c .cover .ensures) in
     (ranged-again _ (p .loop .i) (g .count) (c .before .before .loop-test .taken) e (p .loop .inv .0), omega arith)
 
 returns : tie.Need-returns Inv-loop μ-loop

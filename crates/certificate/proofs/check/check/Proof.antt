@@ -22,8 +22,7 @@ holds-requires c κs = search needs
 returns : tie.Need-returns
 unfolding checkOf
 returns c =
-    let h = c .before in
-    let p = h .before in
+    let h = c .before in let p = h .before in
     rw (← p .before .before .pair-fitness .ensures, p .enum-told .given .1, ← h .holds .ensures, not-true (h .holds .result) (c .if1 .taken))
 
 claim-so-requires : tie.Need-claim-so-requires
@@ -32,9 +31,7 @@ claim-so-requires c κs = search needs
 returns-2 : tie.Need-returns-2
 unfolding checkOf
 returns-2 c =
-    let s = c .before in
-    let h = s .before .before in
-    let p = h .before in
+    let s = c .before in let h = s .before .before in let p = h .before in
     rw (← p .before .before .pair-fitness .ensures, p .enum-told .given .1, ← h .holds .ensures, not-false (h .holds .result) (s .before .if1 .left), ← s .claim-so .ensures, not-true (s .claim-so .result) (c .if2 .taken))
 
 points-verdict-requires : tie.Need-points-verdict-requires
@@ -47,9 +44,7 @@ returns-3 c = rw (← c .before .before .before .pair-fitness .ensures, c .befor
 returns-4 : tie.Need-returns-4
 unfolding checkOf
 returns-4 c =
-    let s = c .before .before in
-    let h = s .before .before in
-    let p = h .before in
+    let s = c .before .before in let h = s .before .before in let p = h .before in
     rw (← p .before .before .pair-fitness .ensures, p .enum-told .given .1, ← h .holds .ensures, not-false (h .holds .result) (s .before .if1 .left), ← s .claim-so .ensures, not-false (s .claim-so .result) (c .before .if2 .left)) (c .points-verdict .ensures ∙ sym (last-test _))
 
 pub check-spec : {M : Type 1} → statement M

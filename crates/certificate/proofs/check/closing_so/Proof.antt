@@ -42,8 +42,7 @@ same-row-requires-2 c κs = search needs
 returns-4 : tie.Need-returns-4
 unfolding closingSo
 returns-4 c =
-    let e = c .before .before .before in
-    let s = e .before in
+    let e = c .before .before .before in let s = e .before in
     rw (c .same-row2 .ensures, c .before .row-of4 .ensures, c .before .before .row-of3 .ensures, ne-eqb _ 0 (s .before .before .if1 .left), ne-eqb _ 1 (s .before .if2 .left), eq-eqb _ 2 (s .if4 .taken), le-leb 2 _ (e .if5 .taken))
 
 returns-5 : tie.Need-returns-5

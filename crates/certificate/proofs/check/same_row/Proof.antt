@@ -42,9 +42,7 @@ same-bits-requires c κs = search needs
 
 returns : tie.Need-returns Inv-loop μ-loop
 returns c =
-    let l = c .before .before in
-    let p = l .before in
-    let g = p .before in
+    let l = c .before .before in let p = l .before in let g = p .before in
     number-out (g .before .numbers .ensures) (g .numbers2 .ensures) (p .loop .k) (p .loop .inv .0) (l .loop-test .taken) (c .before .same-bits .ensures) (c .if1 .taken)
 
 add-k : tie.Need-add-k Inv-loop μ-loop
@@ -55,15 +53,12 @@ loop-less c = search needs
 
 loop-again : tie.Need-loop-again Inv-loop μ-loop
 loop-again c =
-    let l = c .before .before in
-    let p = l .before in
-    let g = p .before in
+    let l = c .before .before in let p = l .before in let g = p .before in
     (number-on (g .before .numbers .ensures) (g .numbers2 .ensures) (p .loop .k) (p .loop .inv .0) (l .loop-test .taken) (c .before .same-bits .ensures) (c .if1 .left), omega (arith, l .loop-test .taken))
 
 returns-2 : tie.Need-returns-2 Inv-loop μ-loop
 returns-2 c =
-    let p = c .before in
-    let g = p .before in
+    let p = c .before in let g = p .before in
     numbers-done (g .before .numbers .ensures) (g .numbers2 .ensures) (p .loop .k) (p .loop .inv .0) (c .loop-test .left)
 
 pub same-row-spec : {M : Type 1} → statement M
