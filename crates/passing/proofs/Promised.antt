@@ -24,7 +24,7 @@ use Rattle.boxes.specs.Crossing.{crossedOf, crossingOf}
 use Rattle.boxes.proofs.Counted.{crossed-when}
 use Rattle.passing.specs.Promises.{TracePromise, CheckPromise, CrossingPromise}
 use Rattle.passing.proofs.Exact.{passes-exact}
-use Rattle.passing.proofs.Passing.{traced-passes}
+use Rattle.passing.proofs.Passing.{trace-passes}
 
 -- no refusal has the number 0
 pub not-refused : (r : Verdict) → refusalOf r ≡ 0 → r ≡ Passed
@@ -43,7 +43,7 @@ trace-promised a b tol guess cap before {after} {r} answer buffer =
     }
   where
     passes : trace.refusalOf r ≡ 0 → Passes a b tol after (countOf r) (startOf r) (closingOf r)
-    passes z = traced-passes a b tol guess cap before answer buffer z
+    passes = rw (answer, buffer) (trace-passes a b tol guess cap before)
 
 module _ (a b : Patch) (tol : Tolerance) (l : List Float) (count start closing : ℕ) where
   pub check-promised : Binary64 l → {r : Verdict} → r ≡ checkOf a b tol l count start closing → CheckPromise a b tol l count start closing r
