@@ -135,7 +135,7 @@ nineOf by l = traceOf (squarePlane unitFrame) (squarePlane (movedFrame by)) defa
 
 -- numbers lent, whatever they are
 abbrev pub lent : ℕ → (ℕ → Float) → List Float
-lent nat.positiveZero p = []
+lent nat.zero p = []
 lent (nat.suc k) p = p k ∷ lent k p
 
 -- "The (P) rows form one table"
