@@ -1,4 +1,6 @@
 pub mod Iterations
 pub mod Bits
-pub mod Passed
+pub mod Evaluated
+pub mod Exact
 pub mod Index
+pub mod Passed

@@ -16,11 +16,12 @@ use Rattle.number.specs.Helpers.{numberFit}
 use Rattle.geometry.specs.Point.{pointFit}
 use Rattle.geometry.specs.Tolerance.{defaultTolerance, toleranceFit}
 use Rattle.patch.specs.Patch.{vectorFit, frameFit, numbersFit, sizesFit, windowFit, markFit, uIsAngle, vIsAngle, fitnessOf}
-use Rattle.walk.specs.Trace.{guessFinite, limitsOf, callFitness, walkOf, traceOf}
+use Rattle.patch.specs.Pair.{pairFitness}
+use Rattle.walk.specs.Trace.{guessFinite, capFits, callFitness, walkOf, traceOf}
 use Rattle.examples.specs.Table.{Table}
 
 pub table : Table
-unfolding evalPoint pointAtOf addVectorOf scaleOf pointOf vectorOf zeroVector fdlibm.computing solve.computing boxes.computing leavingOf firstExit considerOf lesserOf meeting.computing normalOf unitCross tangentOf fitnessOf numbersFit sizesFit windowFit markFit uIsAngle vIsAngle frameFit vectorFit pointFit numberFit defaultTolerance toleranceFit guessFinite limitsOf callFitness walkOf traceOf sqrtOf toBits ofBits
+unfolding evalPoint pointAtOf addVectorOf scaleOf pointOf vectorOf zeroVector fdlibm.computing solve.computing boxes.computing leavingOf firstExit considerOf lesserOf meeting.computing normalOf unitCross tangentOf fitnessOf numbersFit sizesFit windowFit markFit uIsAngle vIsAngle frameFit vectorFit pointFit numberFit defaultTolerance toleranceFit guessFinite capFits pairFitness callFitness walkOf traceOf sqrtOf toBits ofBits
 table =
     record {
       row1 = refl;

@@ -1,4 +1,4 @@
-//! Example 9 as a call, with the constants that the Rust has for it. What it answers stands in the table of `examples`.
+//! Example 9 as a call, with the constants that the Rust has for it. What it answers stands in the table (`specs/Table.antt`).
 use analytic::Surface;
 use geometry::Frame3D;
 use geometry::Point3D;
@@ -9,6 +9,7 @@ use patch::Patch;
 use patch::Window;
 use walk::Traced;
 ghost use mathlib.Core.Path.{_≡_};
+ghost use Rattle.walk.specs.Trace.{outcome};
 ghost use Rattle.examples.specs.Table.{movedFrame, unitFrame, squarePlane, nineOf};
 
 // The frame with axes (1, 0, 0), (0, 1, 0), (0, 0, 1) whose origin is 0 moved.
@@ -50,7 +51,7 @@ fn square_plane(frame: Frame3D) -> Patch
 // Example 9: the unit frame's plane and the same one moved, the default tolerance, cap 2, guess all 0. The table says what it answers for a
 // move by nothing (10) and by (0, 0, 1) (9), and that 35 numbers lent are zero afterwards.
 pub fn nine(by: Vector3D, lent: &mut [f64]) -> Traced
-    ensures { λ r. ⌜ (r ≡ nineOf by (now (lent .entry)) .answer) × (now (lent .exit) ≡ nineOf by (now (lent .entry)) .buffer) ⌝ }
+    ensures { λ r. ⌜ outcome r (now (lent .exit)) ≡ nineOf by (now (lent .entry)) ⌝ }
 {
     let a = square_plane(unit_frame());
     let b = square_plane(moved_frame(by));

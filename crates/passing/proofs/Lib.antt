@@ -3,6 +3,4 @@ pub mod Halves
 pub mod Lines
 pub mod Rows
 pub mod Passing
-pub mod Exact
 pub mod Promised
-pub mod Evaluated

@@ -14,6 +14,7 @@ use Rattle.certificate.specs.Passes.{Passes}
 use Rattle.refusal.specs.Verdict.{refusalOf}
 use Rattle.certificate.specs.Check.{checkOf}
 use Rattle.certificate.proofs.Bits.{Binary64}
+use Rattle.certificate.proofs.Exact.{passes-finite, passes-exact}
 use Rattle.certificate.proofs.Passed.{checked-passes, passes-checked}
 use Rattle.walk.specs.declared.answer.Traced.{Traced}
 use Rattle.walk.specs.Trace.{countOf, startOf, closingOf, traceOf}
@@ -22,14 +23,16 @@ use Rattle.boxes.specs.declared.boxtree.Aabb.{Aabb}
 use Rattle.boxes.specs.declared.crossing.Crossed.{Crossed}
 use Rattle.boxes.specs.Crossing.{crossedOf, crossingOf}
 use Rattle.boxes.proofs.Counted.{crossed-when}
-use Rattle.passing.specs.Promises.{TracePromise, CheckPromise, CrossingPromise}
-use Rattle.passing.proofs.Exact.{passes-exact}
-use Rattle.passing.proofs.Passing.{traced-passes}
+use Rattle.passing.specs.Promises.{ExactGaps, TracePromise, CheckPromise, CrossingPromise}
+use Rattle.passing.proofs.Passing.{trace-passes}
 
 -- no refusal has the number 0
 pub not-refused : (r : Verdict) → refusalOf r ≡ 0 → r ≡ Passed
 not-refused Passed e = refl
 not-refused (Refused q) e = let h = number-positive q in absurd (omega (arith, h, e))
+
+exact-gaps : {a b : Patch} {tol : Tolerance} {l : List Float} {count start closing : ℕ} → Passes a b tol l count start closing → ExactGaps a b tol l count
+exact-gaps p i h = let f = passes-finite p i h in record { finite-a = f .0; finite-b = f .1; within = passes-exact p i h }
 
 pub trace-promised : (a b : Patch) (tol : Tolerance) (guess : Parameters) (cap : ℕ) (before : List Float) {after : List Float} {r : Traced}
     → r ≡ traceOf a b tol guess cap before .answer → after ≡ traceOf a b tol guess cap before .buffer → TracePromise a b tol guess cap before after r
@@ -39,15 +42,15 @@ trace-promised a b tol guess cap before {after} {r} answer buffer =
       buffer = buffer;
       passes = passes;
       checked = λ z. ap refusalOf (passes-checked a b tol after (countOf r) (startOf r) (closingOf r) (passes z));
-      exact = λ z. passes-exact a b tol after (countOf r) (startOf r) (closingOf r) (passes z);
+      exact = λ z. exact-gaps (passes z);
     }
   where
     passes : trace.refusalOf r ≡ 0 → Passes a b tol after (countOf r) (startOf r) (closingOf r)
-    passes z = traced-passes a b tol guess cap before answer buffer z
+    passes = rw (answer, buffer) (trace-passes a b tol guess cap before)
 
 module _ (a b : Patch) (tol : Tolerance) (l : List Float) (count start closing : ℕ) where
   pub check-promised : Binary64 l → {r : Verdict} → r ≡ checkOf a b tol l count start closing → CheckPromise a b tol l count start closing r
-  check-promised d {r} e = record { answer = e; passes = passes; complete = complete; exact = λ z. passes-exact a b tol l count start closing (passes z) }
+  check-promised d {r} e = record { answer = e; passes = passes; complete = complete; exact = λ z. exact-gaps (passes z) }
     where
       passes : refusalOf r ≡ 0 → Passes a b tol l count start closing
       passes z = checked-passes a b tol l count start closing d (sym e ∙ not-refused r z)

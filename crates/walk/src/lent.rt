@@ -9,20 +9,36 @@ ghost use Prim.Native.Nat.{_+_, _*_, _-_, _≤_};
 ghost use lib.ListN.{length, take, replicate};
 ghost use Rattle.groups.specs.Groups.{width, mostPoints};
 ghost use Rattle.number.specs.Helpers.{positiveZero};
-ghost use Rattle.walk.specs.Lent.{placed, reversedOf, rowFor};
+ghost use Rattle.walk.specs.Lent.{over, coordinatesOf, parametersOf, placed, reversedOf, rowFor};
+
+// A point's coordinates, from index `at` on.
+fn put_coordinates(out: &mut [f64], at: usize, row: Row)
+    requires { ⌜ at + 3 ≤ length (now out) ⌝ }
+    ensures { λ _. ⌜ now (out .exit) ≡ over (now (out .entry)) at (coordinatesOf row) ⌝ }
+{
+    out[at] = row.x;
+    out[at + 1] = row.y;
+    out[at + 2] = row.z;
+}
+
+// Its parameters, from index `at` on.
+fn put_parameters(out: &mut [f64], at: usize, row: Row)
+    requires { ⌜ at + 4 ≤ length (now out) ⌝ }
+    ensures { λ _. ⌜ now (out .exit) ≡ over (now (out .entry)) at (parametersOf row) ⌝ }
+{
+    out[at] = row.u1;
+    out[at + 1] = row.v1;
+    out[at + 2] = row.u2;
+    out[at + 3] = row.v2;
+}
 
 // A point's numbers, from index `at` on.
 pub(crate) fn put(out: &mut [f64], at: usize, row: Row)
     requires { ⌜ at + width ≤ length (now out) ⌝ }
     ensures { λ _. ⌜ now (out .exit) ≡ placed (now (out .entry)) at row ⌝ }
 {
-    out[at] = row.x;
-    out[at + 1] = row.y;
-    out[at + 2] = row.z;
-    out[at + 3] = row.u1;
-    out[at + 4] = row.v1;
-    out[at + 5] = row.u2;
-    out[at + 6] = row.v2;
+    put_coordinates(&mut *out, at, row);
+    put_parameters(&mut *out, at + 3, row);
 }
 
 // The numbers of a point of surface A and its parameters.

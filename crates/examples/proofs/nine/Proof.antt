@@ -1,11 +1,6 @@
-use mathlib.Core.Path.{_≡_, ap, _∙_}
-use denote.Ref.{now}
-use Rattle.geometry.specs.Tolerance.{defaultTolerance}
-use Rattle.patch.specs.declared.patch.Patch.{Patch}
-use Rattle.walk.specs.Trace.{Outcome, traceOf}
-use Rattle.number.specs.Helpers.{positiveZero}
-use Rattle.examples.specs.Table.{parameters, movedFrame, unitFrame, squarePlane, nineOf}
+use mathlib.Core.Path.{_∙_}
 use borrow.Author.Needs.{needs}
+use Rattle.geometry.specs.Tolerance.{defaultTolerance}
 use Rattle.examples.proofs.nine.Statement.{statement}
 use Rattle.examples.proofs.nine.Tie as tie
 
@@ -30,19 +25,10 @@ same-length c = search needs
 returns : tie.Need-returns
 unfolding defaultTolerance
 returns c =
-    let g = c .before .before .before .before .before .before .before .before .before .args in
-    let e = c .before .before .trace .ensures in
-    let a-is : c .before .before .before .before .before .before .square-plane .result ≡ squarePlane unitFrame =
-    c .before .before .before .before .before .before .square-plane .ensures ∙ ap squarePlane (c .before .before .before .before .before .before .before .unit-frame .ensures)
-    in
-    let b-is : c .before .before .before .before .square-plane2 .result ≡ squarePlane (movedFrame (g .by)) =
-    c .before .before .before .before .square-plane2 .ensures ∙ ap squarePlane (c .before .before .before .before .before .moved-frame .ensures)
-    in
-    let call : (a b : Patch) → Outcome = λ a b. traceOf a b defaultTolerance (parameters positiveZero positiveZero positiveZero positiveZero) 2 (now (g .lent)) in
-    let same : call (c .before .before .before .before .before .before .square-plane .result) (c .before .before .before .before .square-plane2 .result) ≡ nineOf (g .by) (now (g .lent)) =
-    ap (λ (a : Patch). call a (c .before .before .before .before .square-plane2 .result)) a-is ∙ ap (call (squarePlane unitFrame)) b-is
-    in
-    (e .0 ∙ ap (λ (o : Outcome). o .answer) same, e .1 ∙ ap (λ (o : Outcome). o .buffer) same)
+    let u = c .before .before in
+    let q = u .before .before in
+    let p = q .before .before in
+    u .trace .ensures ∙ rw (p .square-plane .ensures, p .before .unit-frame .ensures, q .square-plane2 .ensures, q .before .moved-frame .ensures)
 
 pub nine-spec : {M : Type 1} → statement M
 nine-spec =

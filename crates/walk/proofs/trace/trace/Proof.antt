@@ -28,24 +28,16 @@ enum-told : tie.Need-enum-told
 enum-told c = search needs
 
 mul-room : tie.Need-mul-room
-mul-room c =
-    let f = fit c .cap in
-    search needs
+mul-room c = omega (arith, fit c .cap)
 
 add-room : tie.Need-add-room
-add-room c =
-    let f = fit c .cap in
-    search needs
+add-room c = omega (arith, fit c .cap)
 
 mul-room-2 : tie.Need-mul-room-2
-mul-room-2 c =
-    let f = fit c .cap in
-    search needs
+mul-room-2 c = omega (arith, fit c .cap)
 
 slice-relend-prefix-walk-from : tie.Need-slice-relend-prefix-walk-from
-slice-relend-prefix-walk-from c =
-    let f = fit c in
-    search needs
+slice-relend-prefix-walk-from c = omega (arith, fit c .lent)
 
 slice-aggregate-walk-from : tie.Need-slice-aggregate-walk-from
 slice-aggregate-walk-from c = sym (length-take-le _ _ (omega (arith, fit (c .before) .lent)))
