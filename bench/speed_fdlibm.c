@@ -9,11 +9,15 @@
 double geomcore_sin(double x);
 double geomcore_cos(double x);
 double geomcore_atan2(double y, double x);
-double probe_atan(double x);
 double c_sin(double x);
 double c_cos(double x);
 double c_atan(double x);
 double c_atan2(double y, double x);
+
+// fdlibm answers atan(x).
+static double ours_atan(double x) {
+    return geomcore_atan2(x, 1.0);
+}
 
 enum { COUNT = 1 << 16, ROUNDS = 40 };
 static double xs[COUNT], ys[COUNT];
@@ -87,8 +91,8 @@ int main(void) {
     row("cos", "within pi/4", 0.785, geomcore_cos, c_cos, cos);
     row("cos", "within 10", 10, geomcore_cos, c_cos, cos);
     row("cos", "within 800000", 800000, geomcore_cos, c_cos, cos);
-    row("atan", "within 0.4", 0.4, probe_atan, c_atan, atan);
-    row("atan", "within 10", 10, probe_atan, c_atan, atan);
+    row("atan", "within 0.4", 0.4, ours_atan, c_atan, atan);
+    row("atan", "within 10", 10, ours_atan, c_atan, atan);
     state = 1;
     for (int i = 0; i < COUNT; i++) {
         xs[i] = uniform();

@@ -3,7 +3,7 @@
 set -eu
 cd "$(dirname "$0")/.."
 mkdir -p target
-for archive in probe probe_surface probe_marching capi; do
+for archive in probe capi; do
     rt staticlib $archive > target/staticlib.log 2>&1 || { tail -n 20 target/staticlib.log; exit 1; }
 done
 cargo test --quiet --release --offline --manifest-path oracle/Cargo.toml > target/oracle.log 2>&1 || { cat target/oracle.log; exit 1; }

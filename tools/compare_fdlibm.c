@@ -7,7 +7,6 @@
 double geomcore_sin(double x);
 double geomcore_cos(double x);
 double geomcore_atan2(double y, double x);
-double probe_atan(double x);
 
 static uint64_t word(const unsigned char *at) {
     uint64_t bits = 0;
@@ -44,7 +43,7 @@ int main(int count, char **words) {
         double got = is_sin ? geomcore_sin(number(x))
             : is_cos ? geomcore_cos(number(x))
             : is_two ? geomcore_atan2(number(y), number(x))
-            : probe_atan(number(x));
+            : geomcore_atan2(number(x), 1.0); // fdlibm answers atan(x)
         if ((is_sin || is_cos) && magnitude >> 32 > 0x413921fb && magnitude < 0x7ff0000000000000u) {
             beyond++;
             expected = 0x7ff8000000000000u;

@@ -1,4 +1,4 @@
-//! The proved code, through the crates `probe`, `probe_surface` and `probe_marching`. A Rattle slice passes to C as a pointer and a length.
+//! The proved code, through the crate `probe`. A Rattle slice passes to C as a pointer and a length.
 
 unsafe extern "C" {
     fn probe_solve(
@@ -11,7 +11,6 @@ unsafe extern "C" {
     fn probe_surface(
         what: u64,
         kind: u64,
-        marks: u64,
         numbers: *const f64,
         count: usize,
         u: f64,
@@ -37,11 +36,10 @@ pub(crate) fn solve(n: usize, input: &[f64], output: &mut [f64]) -> u64 {
     unsafe { probe_solve(n as u64, s, inputs, t, outputs) }
 }
 
-/// The answer word of `what`: 0 the point, 1 both first derivatives, 2 the public point.
+/// The answer word of `what`: 0 the point, 1 both first derivatives.
 fn surface(
     what: u64,
     kind: u64,
-    marks: u64,
     numbers: &[f64],
     [u, v]: [f64; 2],
     output: &mut [f64],
@@ -49,29 +47,17 @@ fn surface(
     let (s, count) = (numbers.as_ptr(), numbers.len());
     let (t, outputs) = (output.as_mut_ptr(), output.len());
     // SAFETY: as in `solve`.
-    unsafe { probe_surface(what, kind, marks, s, count, u, v, t, outputs) }
+    unsafe { probe_surface(what, kind, s, count, u, v, t, outputs) }
 }
 
 /// 1 and the point, or 0.
 pub(crate) fn point(kind: u64, numbers: &[f64], u: f64, v: f64, output: &mut [f64]) -> u64 {
-    surface(0, kind, 0, numbers, [u, v], output)
+    surface(0, kind, numbers, [u, v], output)
 }
 
 /// 1 and both first derivatives, or 0.
 pub(crate) fn derivatives(kind: u64, numbers: &[f64], u: f64, v: f64, output: &mut [f64]) -> u64 {
-    surface(1, kind, 0, numbers, [u, v], output)
-}
-
-/// 0 and the public point, or a refusal's number.
-pub(crate) fn located(
-    kind: u64,
-    marks: u64,
-    numbers: &[f64],
-    u: f64,
-    v: f64,
-    output: &mut [f64],
-) -> u64 {
-    surface(2, kind, marks, numbers, [u, v], output)
+    surface(1, kind, numbers, [u, v], output)
 }
 
 /// A step of the walk.
@@ -99,7 +85,7 @@ impl Step {
     }
 }
 
-/// The answer word of a step, through the crate `probe_marching`.
+/// The answer word of a step.
 pub(crate) fn step(step: Step, input: &[f64], output: &mut [f64]) -> u64 {
     let (what, pin) = step.number();
     let (s, inputs) = (input.as_ptr(), input.len());

@@ -12,7 +12,7 @@ use Rattle.job.specs.declared.file.JobRead.{JobRead}
 use Rattle.job.specs.declared.file.JobRead.the-variants.{Whole, Refused}
 use Rattle.job.specs.File.{jobOf}
 use Rattle.passing.proofs.Promised.{trace-promised}
-use Rattle.answer.specs.Answer.{answerLine, lentNumbers, afterReading, answerOf, jobAnswer, Tells, tells-refusal, tells-trace}
+use Rattle.answer.specs.Answer.{answerLine, lentNumbers, walkAfterReading, answerOf, jobAnswer, Tells, tells-refusal, tells-trace}
 
 module _ (bytes : List ℕ) where
   refused-tells : (r : Refusal) → Tells bytes (answerLine (traced.Refused r))
@@ -30,6 +30,6 @@ module _ (bytes : List ℕ) where
   unfolding jobAnswer answerOf
   line-tells = go (jobOf bytes) refl
     where
-      go : (q : JobRead) → jobOf bytes ≡ q → Tells bytes (answerLine (afterReading q))
+      go : (q : JobRead) → jobOf bytes ≡ q → Tells bytes (answerLine (walkAfterReading q))
       go (Refused r) e = refused-tells r
       go (Whole j) e = traced-tells j e _ refl

@@ -27,13 +27,13 @@ unfoldable pub lentNumbers : List Float
 lentNumbers = replicate 7007 (bits 0)
 
 -- the walk of the job that was read, over the numbers lent
-abbrev pub afterReading : JobRead → Traced
-afterReading (Refused r) = traced.Refused r
-afterReading (Whole j) = traceOf (j .a) (j .b) (j .tol) (j .guess) (j .cap) lentNumbers .answer
+abbrev pub walkAfterReading : JobRead → Traced
+walkAfterReading (Refused r) = traced.Refused r
+walkAfterReading (Whole j) = traceOf (j .a) (j .b) (j .tol) (j .guess) (j .cap) lentNumbers .answer
 
 -- 19 is "tested before all else"; then the walk answers
 unfoldable pub answerOf : List ℕ → Traced
-answerOf bytes = afterReading (jobOf bytes)
+answerOf bytes = walkAfterReading (jobOf bytes)
 
 -- the line that the program writes
 unfoldable pub jobAnswer : List ℕ → List ℕ

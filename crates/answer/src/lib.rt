@@ -9,6 +9,9 @@ ghost use lib.ListN.{length};
 ghost use Rattle.answer.specs.Line.{written};
 ghost use Rattle.answer.specs.Answer.{answerLine, answerOf, LinePromise};
 
+// How many numbers the job program lends.
+const LENT: usize = 7007;
+
 // Puts the answer's line at the front of the lent bytes; how many it has.
 fn put_line(answer: Traced, line: &mut [u8; LINE]) -> usize
     ensures { λ r. ⌜ (r ≡ length (answerLine answer)) × (now (line .exit) ≡ written (answerLine answer) (now (line .entry))) ⌝ }
@@ -23,7 +26,7 @@ fn put_line(answer: Traced, line: &mut [u8; LINE]) -> usize
     }
 }
 
-// The answer to a job: refusal 19 of its file, or what the walk answers over 7,007 numbers.
+// The answer to a job: refusal 19 of its file, or what the walk answers over the numbers lent.
 fn answer_of(input: &[u8]) -> Traced
     ensures { λ r. ⌜ r ≡ answerOf (now (input .entry)) ⌝ }
 {
@@ -31,7 +34,7 @@ fn answer_of(input: &[u8]) -> Traced
     match read {
         JobRead::Refused(refusal) => Traced::Refused(refusal),
         JobRead::Whole(asked) => {
-            let mut lent = [0.0; 7007];
+            let mut lent = [0.0; LENT];
             geomcore::call::trace(
                 asked.a,
                 asked.b,

@@ -76,7 +76,8 @@ module _ (bytes : List ℕ) (j : Job) (read : jobOf bytes ≡ Whole j) (before a
       let b = bounded (traced.Line count start closing) p in
       let s1 = b .start in
       let k1 = b .closing in
-      rw (count-part closing start count k1 s1, start-part closing start count k1 s1, code-part closing start count k1) (record { job = j; read = read; passes = p .passes refl; exact = p .exact refl })
+      rw (count-part closing start count k1 s1, start-part closing start count k1 s1, code-part closing start count k1)
+      (record { job = j; read = read; passes = p .passes refl; exact = p .exact refl })
 
   pub traced-word : {r : Traced} {w : ℕ} → TracePromise (j .a) (j .b) (j .tol) (j .guess) (j .cap) before after r → w ≡ tracedWord r → TraceWord bytes before after w
   unfolding traceAnswer

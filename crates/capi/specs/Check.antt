@@ -19,13 +19,13 @@ unfoldable pub checkedWord : Verdict → ℕ
 checkedWord answer = refusalOf answer + indexIn answer * 2 ^ 32
 
 -- 19, or the check against the job that was read
-abbrev pub afterReading : JobRead → List Float → ℕ → ℕ → ℕ → ℕ
-afterReading (Refused r) l count start code = numberOf r
-afterReading (Whole j) l count start code = checkedWord (checkOf (j .a) (j .b) (j .tol) l count start code)
+abbrev pub checkAfterReading : JobRead → List Float → ℕ → ℕ → ℕ → ℕ
+checkAfterReading (Refused r) l count start code = numberOf r
+checkAfterReading (Whole j) l count start code = checkedWord (checkOf (j .a) (j .b) (j .tol) l count start code)
 
 -- the job's guess and cap are not read
 unfoldable pub checkAnswer : List ℕ → List Float → ℕ → ℕ → ℕ → ℕ
-checkAnswer bytes l count start code = afterReading (jobOf bytes) l count start code
+checkAnswer bytes l count start code = checkAfterReading (jobOf bytes) l count start code
 
 -- the contract of `geomcore_check`: "a check passes a trace exactly when 01's conditions hold", by this road too
 pub record CheckWord (bytes : List ℕ) (l : List Float) (count start code w : ℕ) : Type 0 where

@@ -6,6 +6,8 @@ use lib.ListN.{length, getD}
 use lib.Ieee.{Float, nan}
 use Rattle.loops.specs.Loop.{pick}
 use Rattle.number.specs.Operators.{bits}
+use Rattle.refusal.specs.Refusal.{numberOf}
+use Rattle.refusal.specs.declared.Refusal.the-variants.{Lent}
 use Rattle.geometry.specs.Point.{pointOf}
 use Rattle.geometry.specs.declared.point.Point3D.{Point3D}
 use Rattle.boxes.specs.declared.crossing.Crossed.{Crossed}
@@ -22,7 +24,7 @@ cornerAt l at = pointOf (getD l at nan) (getD l (at + 1) nan) (getD l (at + 2) n
 -- the corners: low x, y, z, then high; fewer than six numbers answer 8. "The parametric tolerance isn't read."
 unfoldable pub crossingAnswer : Float → Float → List Float → ℕ → List Float → ℕ
 crossingAnswer confusion angular buffer count corners =
-    pick (ltb (length corners) 6) 8
+    pick (ltb (length corners) 6) (numberOf Lent)
     (crossedWord
     (crossingOf (record { confusion = confusion; angular = angular; parametric = bits 0 }) buffer count
     (record { low = cornerAt corners 0; high = cornerAt corners 3 })))

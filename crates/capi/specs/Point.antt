@@ -6,6 +6,7 @@ use lib.ListN.{length, set}
 use lib.Ieee.{Float}
 use Rattle.loops.specs.Loop.{pick}
 use Rattle.refusal.specs.Refusal.{numberOf}
+use Rattle.refusal.specs.declared.Refusal.the-variants.{Lent}
 use Rattle.patch.specs.declared.patch.Patch.{Patch}
 use Rattle.patch.specs.declared.point.Located.{Located}
 use Rattle.patch.specs.declared.point.Located.the-variants as located
@@ -30,13 +31,13 @@ locatedAnswer l t = answered (refusalOf l) (located3 l t)
 
 -- fewer than 3 numbers lent answer 8
 unfoldable pub pointOn : Patch → Float → Float → List Float → Answer
-pointOn p u v t = pick (ltb (length t) 3) (answered 8 t) (locatedAnswer (locatedOf p u v) t)
+pointOn p u v t = pick (ltb (length t) 3) (answered (numberOf Lent) t) (locatedAnswer (locatedOf p u v) t)
 
 -- 19, or the point of the surface that was read
-abbrev pub afterReading : SurfaceRead → Float → Float → List Float → Answer
-afterReading (surface.Refused r) u v t = answered (numberOf r) t
-afterReading (surface.Whole p) u v t = pointOn p u v t
+abbrev pub pointAfterReading : SurfaceRead → Float → Float → List Float → Answer
+pointAfterReading (surface.Refused r) u v t = answered (numberOf r) t
+pointAfterReading (surface.Whole p) u v t = pointOn p u v t
 
 -- by the surface's 146 bytes of the job file
 unfoldable pub pointAnswer : List ℕ → Float → Float → List Float → Answer
-pointAnswer bytes u v t = afterReading (surfaceFile bytes) u v t
+pointAnswer bytes u v t = pointAfterReading (surfaceFile bytes) u v t

@@ -27,13 +27,13 @@ abbrev pub outcomeAnswer : Outcome → Answer
 outcomeAnswer o = answered (tracedWord (o .answer)) (o .buffer)
 
 -- 19, or the walk of the job that was read
-abbrev pub afterReading : JobRead → List Float → Answer
-afterReading (Refused r) t = answered (numberOf r) t
-afterReading (Whole j) t = outcomeAnswer (traceOf (j .a) (j .b) (j .tol) (j .guess) (j .cap) t)
+abbrev pub traceAfterReading : JobRead → List Float → Answer
+traceAfterReading (Refused r) t = answered (numberOf r) t
+traceAfterReading (Whole j) t = outcomeAnswer (traceOf (j .a) (j .b) (j .tol) (j .guess) (j .cap) t)
 
 -- by the 347 bytes of a job file; the lent buffer may have any length
 unfoldable pub traceAnswer : List ℕ → List Float → Answer
-traceAnswer bytes t = afterReading (jobOf bytes) t
+traceAnswer bytes t = traceAfterReading (jobOf bytes) t
 
 -- the contract of `geomcore_trace`; `before` and `after` are the lent buffer
 pub record TraceWord (bytes : List ℕ) (before after : List Float) (w : ℕ) : Type 0 where

@@ -9,6 +9,7 @@ use job::JobRead;
 use job::SurfaceRead;
 use patch::Located;
 use patch::Patch;
+use refusal::Refusal;
 use refusal::Verdict;
 use walk::Traced;
 ghost use mathlib.Core.Path.{_≡_};
@@ -71,7 +72,7 @@ fn point_on(patch: Patch, u: f64, v: f64, out: &mut [f64]) -> u64
     ensures { λ r. ⌜ answered r (now (out .exit)) ≡ pointOn patch u v (now (out .entry)) ⌝ }
 {
     if out.len() < 3 {
-        return 8;
+        return Refusal::Lent.number();
     }
     let located = geomcore::call::point(patch, u, v);
     match located {
@@ -216,7 +217,7 @@ pub extern "C" fn geomcore_crossing(
     ensures { λ r. ⌜ r ≡ crossingAnswer confusion angular (now (buffer .entry)) count (now (corners .entry)) ⌝ }
 {
     if corners.len() < 6 {
-        return 8;
+        return Refusal::Lent.number();
     }
     let tol = Tolerance {
         confusion,

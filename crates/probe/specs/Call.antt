@@ -1,4 +1,4 @@
--- What the numbers that a probe of the walk's steps is given mean, and how an answer is written. Definitions only.
+-- What the numbers that a probe is given mean, and how an answer is written. Definitions only.
 use mathlib.Core.List.{List}
 use Prim.Native.Nat.{ℕ, _+_}
 use lib.ListN.{getD, set}
@@ -66,9 +66,9 @@ callFrom s = record {
 
 -- ---- what is written
 
--- a vector at the front
-unfoldable pub putVector : List Float → Vector3D → List Float
-putVector t d = set (set (set t 0 (d .x)) 1 (d .y)) 2 (d .z)
+-- three numbers, from at on
+unfoldable pub putThree : List Float → ℕ → Float → Float → Float → List Float
+putThree t at x y z = set (set (set t at x) (at + 1) y) (at + 2) z
 
 -- four parameters at the front
 unfoldable pub putParameters : List Float → Parameters → List Float

@@ -6,7 +6,8 @@ use lib.ListN.{getD, set}
 use lib.Ieee.{Float, nan}
 use Rattle.loops.specs.Loop.{pick}
 use Rattle.probe.specs.Probe.{Probed, probed, orShort}
-use Rattle.probe.specs.Call.{pointFrom, vectorFrom, parametersFrom, callFrom, putVector, putParameters}
+use Rattle.probe.specs.Call.{pointFrom, vectorFrom, parametersFrom, callFrom, putThree, putParameters}
+use Rattle.probe.specs.declared.call.Call.{Call}
 use Rattle.tangent.specs.declared.Direction.{Direction}
 use Rattle.tangent.specs.declared.Direction.the-variants as direction
 use Rattle.marching.specs.declared.leaving.Exit.{Exit}
@@ -20,7 +21,7 @@ use Rattle.meeting.specs.Newton.{meetOf, meetInPlaneOf, landOf}
 
 -- 1 and the direction, or 0
 abbrev pub writtenDirection : Direction → List Float → Probed
-writtenDirection (direction.Along d) t = probed 1 (putVector t d)
+writtenDirection (direction.Along d) t = probed 1 (putThree t 0 (d .x) (d .y) (d .z))
 writtenDirection direction.Missing t = probed 0 t
 
 -- the index and the bound, or 4
@@ -33,38 +34,38 @@ abbrev pub writtenMet : Met → List Float → Probed
 writtenMet (met.At y) t = probed 1 (putParameters t y)
 writtenMet met.Nothing t = probed 0 t
 
--- `tangent`; each of them wants 54 numbers in and 4 out
-unfoldable pub probeTangent : List Float → List Float → Probed
-probeTangent s t = orShort 54 4 s t (writtenDirection (tangentOf (callFrom s .a) (callFrom s .b) (callFrom s .x) (callFrom s .tol)) t)
+-- `tangent`
+unfoldable pub probeTangent : Call → List Float → Probed
+probeTangent c t = writtenDirection (tangentOf (c .a) (c .b) (c .x) (c .tol)) t
 
 -- `predict`, by the displacement from 48 on
-unfoldable pub probePredict : List Float → List Float → Probed
-probePredict s t = orShort 54 4 s t (probed 1 (putParameters t (predictOf (callFrom s .a) (callFrom s .b) (callFrom s .x) (vectorFrom s 48))))
+unfoldable pub probePredict : Call → List Float → List Float → Probed
+probePredict c s t = probed 1 (putParameters t (predictOf (c .a) (c .b) (c .x) (vectorFrom s 48)))
 
 -- `leaving`, to the parameters from 48 on
-unfoldable pub probeLeaving : List Float → List Float → Probed
-probeLeaving s t = orShort 54 4 s t (writtenExit (leavingOf (callFrom s .a) (callFrom s .b) (callFrom s .x) (parametersFrom s 48)) t)
+unfoldable pub probeLeaving : Call → List Float → List Float → Probed
+probeLeaving c s t = writtenExit (leavingOf (c .a) (c .b) (c .x) (parametersFrom s 48)) t
 
 -- `meet` without a plane
-unfoldable pub probeMeet : List Float → List Float → Probed
-probeMeet s t = orShort 54 4 s t (writtenMet (meetOf (callFrom s .a) (callFrom s .b) (callFrom s .x) (callFrom s .tol)) t)
+unfoldable pub probeMeet : Call → List Float → Probed
+probeMeet c t = writtenMet (meetOf (c .a) (c .b) (c .x) (c .tol)) t
 
 -- `meet` with the plane through the point from 48 on, its normal from 51 on
-unfoldable pub probeMeetInPlane : List Float → List Float → Probed
-probeMeetInPlane s t =
-    orShort 54 4 s t (writtenMet (meetInPlaneOf (callFrom s .a) (callFrom s .b) (callFrom s .x) (pointFrom s 48) (vectorFrom s 51) (callFrom s .tol)) t)
+unfoldable pub probeMeetInPlane : Call → List Float → List Float → Probed
+probeMeetInPlane c s t = writtenMet (meetInPlaneOf (c .a) (c .b) (c .x) (pointFrom s 48) (vectorFrom s 51) (c .tol)) t
 
 -- `land`, the pinned parameter at number 48
-unfoldable pub probeLand : List Float → ℕ → List Float → Probed
-probeLand s pin t = orShort 54 4 s t (writtenMet (landOf (callFrom s .a) (callFrom s .b) (callFrom s .x) pin (getD s 48 nan) (callFrom s .tol)) t)
+unfoldable pub probeLand : Call → List Float → ℕ → List Float → Probed
+probeLand c s pin t = writtenMet (landOf (c .a) (c .b) (c .x) pin (getD s 48 nan) (c .tol)) t
 
--- by the step's number; 9 for any other
+-- by the step's number; 9 for any other, fewer than 54 numbers in or 4 out
 unfoldable pub probeStep : ℕ → ℕ → List Float → List Float → Probed
 probeStep what pin s t =
-    pick (eqb what 0) (probeTangent s t)
-    (pick (eqb what 1) (probePredict s t)
-    (pick (eqb what 2) (probeLeaving s t)
-    (pick (eqb what 3) (probeMeet s t)
-    (pick (eqb what 4) (probeMeetInPlane s t)
-    (pick (eqb what 5) (probeLand s pin t)
-    (probed 9 t))))))
+    orShort 54 4 s t
+    (pick (eqb what 0) (probeTangent (callFrom s) t)
+    (pick (eqb what 1) (probePredict (callFrom s) s t)
+    (pick (eqb what 2) (probeLeaving (callFrom s) s t)
+    (pick (eqb what 3) (probeMeet (callFrom s) t)
+    (pick (eqb what 4) (probeMeetInPlane (callFrom s) s t)
+    (pick (eqb what 5) (probeLand (callFrom s) s pin t)
+    (probed 9 t)))))))

@@ -1,6 +1,6 @@
-//! What every probe of the walk's steps reads and writes.
+//! What the probes read and write.
 //!
-//! The input holds 54 numbers. Each of two patches is 21: the kind (below 1 plane, below 2 cylinder, below 3 cone, below 4 sphere, else
+//! The input of a step holds 54 numbers. Each of two patches is 21: the kind (below 1 plane, below 2 cylinder, below 3 cone, below 4 sphere, else
 //! torus), the frame's origin, x, y and z direction, two sizes (used ones first), then low, high and mark (above 0) of u and of v.
 //! Confusion, angular and four parameters follow, then what a function asks beside them.
 use analytic::Surface;
@@ -14,7 +14,7 @@ use patch::Window;
 ghost use mathlib.Core.Path.{_≡_};
 ghost use Prim.Native.Nat.{_+_, _≤_};
 ghost use lib.ListN.{length};
-ghost use Rattle.probe.specs.Call.{pointFrom, vectorFrom, frameFrom, surfaceFrom, windowFrom, patchFrom, parametersFrom, callFrom, putVector, putParameters};
+ghost use Rattle.probe.specs.Call.{pointFrom, vectorFrom, frameFrom, surfaceFrom, windowFrom, patchFrom, parametersFrom, callFrom, putThree, putParameters};
 
 // What every function asks.
 pub struct Call {
@@ -116,13 +116,14 @@ pub fn read(input: &[f64]) -> Call
     Call { a, b, x, tol }
 }
 
-pub fn put_vector(output: &mut [f64], d: Vector3D)
-    requires { ⌜ 4 ≤ length (now output) ⌝ }
-    ensures { λ r. ⌜ now (output .exit) ≡ putVector (now (output .entry)) d ⌝ }
+// Writes three numbers from `at` on.
+pub fn put(output: &mut [f64], at: usize, x: f64, y: f64, z: f64)
+    requires { ⌜ at + 3 ≤ length (now output) ⌝ }
+    ensures { λ r. ⌜ now (output .exit) ≡ putThree (now (output .entry)) at x y z ⌝ }
 {
-    output[0] = d.x;
-    output[1] = d.y;
-    output[2] = d.z;
+    output[at] = x;
+    output[at + 1] = y;
+    output[at + 2] = z;
 }
 
 pub fn put_parameters(output: &mut [f64], x: Parameters)

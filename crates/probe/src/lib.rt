@@ -2,19 +2,18 @@
 //!
 //! The solvers: the input holds the matrix row by row, the right side and tol; a solution goes to the front of the output.
 //! The answer: 1 solved, 0 gave up, 9 a slice too short. Where it is not 1 the output is as it was.
-pub mod call;
+mod call;
 pub mod steps;
 pub mod surface;
 
 ghost use mathlib.Core.Path.{_≡_};
 ghost use Prim.Native.Nat.{_+_, _≤_};
 ghost use lib.ListN.{length};
-ghost use Rattle.arctangent.specs.Arctangent.{atanOf};
-ghost use Rattle.probe.specs.Probe.{rowAt, probed, probe2Of, probe3Of, probe4Of, probeOf};
+ghost use Rattle.probe.specs.Probe.{rowOf, probed, probe2Of, probe3Of, probe4Of, probeOf};
 
 fn row2(input: &[f64], at: usize) -> [f64; 2]
     requires { ⌜ at + 2 ≤ length (now input) ⌝ }
-    ensures { λ r. ⌜ r ≡ rowAt 2 at (now (input .entry)) ⌝ }
+    ensures { λ r. ⌜ r ≡ rowOf 2 at (now (input .entry)) ⌝ }
 {
     [input[at], input[at + 1]]
 }
@@ -45,7 +44,7 @@ fn probe_2x2(input: &[f64], output: &mut [f64]) -> u64
 
 fn row3(input: &[f64], at: usize) -> [f64; 3]
     requires { ⌜ at + 3 ≤ length (now input) ⌝ }
-    ensures { λ r. ⌜ r ≡ rowAt 3 at (now (input .entry)) ⌝ }
+    ensures { λ r. ⌜ r ≡ rowOf 3 at (now (input .entry)) ⌝ }
 {
     [input[at], input[at + 1], input[at + 2]]
 }
@@ -78,7 +77,7 @@ fn probe_3x3(input: &[f64], output: &mut [f64]) -> u64
 
 fn row4(input: &[f64], at: usize) -> [f64; 4]
     requires { ⌜ at + 4 ≤ length (now input) ⌝ }
-    ensures { λ r. ⌜ r ≡ rowAt 4 at (now (input .entry)) ⌝ }
+    ensures { λ r. ⌜ r ≡ rowOf 4 at (now (input .entry)) ⌝ }
 {
     [input[at], input[at + 1], input[at + 2], input[at + 3]]
 }
@@ -126,12 +125,4 @@ pub extern "C" fn probe_solve(size: u64, input: &[f64], output: &mut [f64]) -> u
         return probe_4x4(input, output);
     }
     9
-}
-
-// The arc tangent.
-#[no_mangle]
-pub extern "C" fn probe_atan(x: f64) -> f64
-    ensures { λ r. ⌜ r ≡ atanOf x ⌝ }
-{
-    arctangent::atan(x)
 }

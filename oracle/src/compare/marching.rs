@@ -531,7 +531,7 @@ fn answer(c: &Call, windows: Windows) -> (u64, Vec<f64>) {
 /// How many numbers a call hands in.
 const INPUT: usize = 54;
 
-/// The call's numbers, as the crate `probe_marching` reads them.
+/// The call's numbers, as the crate `probe` reads them.
 fn input(c: &Call) -> [f64; INPUT] {
     let mut out = Vec::with_capacity(INPUT);
     for s in [&c.a, &c.b] {

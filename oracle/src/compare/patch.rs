@@ -5,7 +5,6 @@ use super::{SPECIAL, UNTOUCHED, word};
 use crate::capi;
 use crate::job::Side;
 use crate::patch::refusal;
-use crate::probe;
 use crate::random::Random;
 use std::io::{self, Write};
 
@@ -72,7 +71,7 @@ fn window(r: &mut Random) -> [f64; 2] {
     }
 }
 
-/// A patch with its parameters; the numbers as the probe takes them.
+/// A patch with its parameters; the numbers are its frame, two sizes and two windows.
 struct Case {
     kind: usize,
     marks: u64,
@@ -121,30 +120,31 @@ fn answer(c: &Case) -> (u64, Vec<f64>) {
     (0, point(c.kind, &c.numbers, c.u, c.v).to_vec())
 }
 
+/// The surface's bytes, a size that the kind has not being clear if so asked.
+fn bytes(c: &Case, clear: bool) -> Vec<u8> {
+    let (kind, marks) = (c.kind as u8, c.marks as u8);
+    let mut numbers: [f64; 18] = std::array::from_fn(|k| c.numbers[k]);
+    if clear {
+        numbers[12 + Side::sizes(kind)..14].fill(0.0);
+    }
+    let mut out = Vec::new();
+    Side { kind, marks, numbers }.write(&mut out);
+    out
+}
+
 fn agrees(c: &Case, expected: &(u64, Vec<f64>)) -> bool {
     let mut output = [UNTOUCHED; 4];
-    let kind = c.kind as u64;
-    let said = probe::located(kind, c.marks, &c.numbers, c.u, c.v, &mut output);
+    let said = capi::point(&bytes(c, true), c.u, c.v, &mut output);
     said == expected.0 && wrote(&output, &expected.1)
 }
 
 /// Whether the C interface's point gives this answer; a size that the kind has not, with any bit set, is answered 19.
 fn agrees_in_c(r: &mut Random, c: &Case) -> bool {
-    let (kind, marks) = (c.kind as u8, c.marks as u8);
-    let mut numbers: [f64; 18] = std::array::from_fn(|k| c.numbers[k]);
-    let unused = &mut numbers[12 + Side::sizes(kind)..14];
-    if !r.one_in(4) {
-        unused.fill(0.0);
-    }
-    let set = unused.iter().any(|x| x.to_bits() != 0);
+    let clear = !r.one_in(4);
+    let unused = &c.numbers[12 + Side::sizes(c.kind as u8)..14];
+    let set = !clear && unused.iter().any(|x| x.to_bits() != 0);
     let expected = if set { (19, Vec::new()) } else { answer(c) };
-    let mut bytes = Vec::new();
-    let side = Side {
-        kind,
-        marks,
-        numbers,
-    };
-    side.write(&mut bytes);
+    let bytes = bytes(c, clear);
     let mut output = [UNTOUCHED; 4];
     let said = capi::point(&bytes, c.u, c.v, &mut output);
     let short = capi::point(
@@ -156,15 +156,20 @@ fn agrees_in_c(r: &mut Random, c: &Case) -> bool {
     said == expected.0 && wrote(&output, &expected.1) && short == 19
 }
 
-/// A kind above 4 and marks above 3 are answered 19, slices too short 8, and nothing is written.
+/// A kind above 4, marks above 3 and too few bytes are answered 19, too short an output 8, and nothing is written.
 fn unusable() -> u64 {
-    let n = [1.0; 18];
+    let whole = [0; 146];
+    let with = |place: usize, value: u8| {
+        let mut bytes = whole;
+        bytes[place] = value;
+        bytes
+    };
     let mut out = [UNTOUCHED; 3];
     let said = [
-        (19, probe::located(5, 0, &n, 0.0, 0.0, &mut out)),
-        (19, probe::located(0, 4, &n, 0.0, 0.0, &mut out)),
-        (8, probe::located(0, 0, &n[..17], 0.0, 0.0, &mut out)),
-        (8, probe::located(0, 0, &n, 0.0, 0.0, &mut out[..2])),
+        (19, capi::point(&with(0, 5), 0.0, 0.0, &mut out)),
+        (19, capi::point(&with(1, 4), 0.0, 0.0, &mut out)),
+        (19, capi::point(&whole[..145], 0.0, 0.0, &mut out)),
+        (8, capi::point(&whole, 0.0, 0.0, &mut out[..2])),
     ];
     let wrong = said.iter().filter(|(right, word)| right != word).count();
     wrong as u64 + u64::from(!wrote(&out, &[]))

@@ -6,9 +6,12 @@ use Rattle.capi.specs.Point.{pointOn}
 use Rattle.capi.proofs.point_on.Statement.{statement}
 use Rattle.capi.proofs.point_on.Tie as tie
 
+number-requires : tie.Need-number-requires
+number-requires c κs = search needs
+
 returns : tie.Need-returns
 unfolding pointOn
-returns c = rw (lt-ltb _ _ (c .if1 .taken))
+returns c = rw (lt-ltb _ _ (c .before .if1 .taken), c .number .ensures)
 
 point-requires : tie.Need-point-requires
 point-requires c κs = search needs
@@ -16,8 +19,8 @@ point-requires c κs = search needs
 enum-known-located : tie.Need-enum-known-located
 enum-known-located c = search needs
 
-number-requires : tie.Need-number-requires
-number-requires c κs = search needs
+number-requires-2 : tie.Need-number-requires-2
+number-requires-2 c κs = search needs
 
 enum-known-located-2 : tie.Need-enum-known-located-2
 enum-known-located-2 c = search needs
@@ -30,7 +33,7 @@ returns-2 c =
     let m = c .before .before in
     let p = m .before .before in
     let g = p .before .before .before .args in
-    on-refused (g .patch) (g .u) (g .v) (now (g .out)) (p .before .if1 .left) (p .point .ensures .answer) (m .located .given .1) (c .number .ensures)
+    on-refused (g .patch) (g .u) (g .v) (now (g .out)) (p .before .if1 .left) (p .point .ensures .answer) (m .located .given .1) (c .number2 .ensures)
 
 same-length : tie.Need-same-length
 same-length c = search needs
@@ -46,10 +49,11 @@ pub point-on-spec : {M : Type 1} → statement M
 point-on-spec =
     tie.close
     (tie.spec
+    number-requires
     returns
     point-requires
     enum-known-located
-    number-requires
+    number-requires-2
     enum-known-located-2
     put-requires
     returns-2

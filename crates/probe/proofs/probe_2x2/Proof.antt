@@ -50,7 +50,8 @@ returns-3 c =
     let q = c .before .before .before in
     let b = q .before .before in
     let e = b .before .before .before in
-    rw (le-ltb _ _ (e .before .if1 .left), le-ltb _ _ (e .if2 .left), ← b .before .before .row2 .ensures, ← b .before .row22 .ensures, ← b .row23 .ensures, ← q .solve-2x2 .ensures, c .before .solved .given .1)
+    rw (le-ltb _ _ (e .before .if1 .left), le-ltb _ _ (e .if2 .left))
+    (rw (← b .before .before .row2 .ensures, ← b .before .row22 .ensures, ← b .row23 .ensures, ← q .solve-2x2 .ensures, c .before .solved .given .1))
 
 returns-4 : tie.Need-returns-4
 unfolding probe2Of
@@ -58,7 +59,8 @@ returns-4 c =
     let q = c .before .before in
     let b = q .before .before in
     let e = b .before .before .before in
-    rw (le-ltb _ _ (e .before .if1 .left), le-ltb _ _ (e .if2 .left), ← b .before .before .row2 .ensures, ← b .before .row22 .ensures, ← b .row23 .ensures, ← q .solve-2x2 .ensures, c .enum-told .given .1)
+    rw (le-ltb _ _ (e .before .if1 .left), le-ltb _ _ (e .if2 .left))
+    (rw (← b .before .before .row2 .ensures, ← b .before .row22 .ensures, ← b .row23 .ensures, ← q .solve-2x2 .ensures, c .enum-told .given .1))
 
 pub probe-2x2-spec : {M : Type 1} → statement M
 probe-2x2-spec =

@@ -56,7 +56,8 @@ returns-3 c =
     let q = c .before .before .before in
     let b = q .before .before in
     let e = b .before .before .before .before in
-    rw (le-ltb _ _ (e .before .if1 .left), le-ltb _ _ (e .if2 .left), ← b .before .before .before .row3 .ensures, ← b .before .before .row32 .ensures, ← b .before .row33 .ensures, ← b .row34 .ensures, ← q .solve-3x3 .ensures, c .before .solved .given .1)
+    rw (le-ltb _ _ (e .before .if1 .left), le-ltb _ _ (e .if2 .left))
+    (rw (← b .before .before .before .row3 .ensures, ← b .before .before .row32 .ensures, ← b .before .row33 .ensures, ← b .row34 .ensures, ← q .solve-3x3 .ensures, c .before .solved .given .1))
 
 returns-4 : tie.Need-returns-4
 unfolding probe3Of
@@ -64,7 +65,8 @@ returns-4 c =
     let q = c .before .before in
     let b = q .before .before in
     let e = b .before .before .before .before in
-    rw (le-ltb _ _ (e .before .if1 .left), le-ltb _ _ (e .if2 .left), ← b .before .before .before .row3 .ensures, ← b .before .before .row32 .ensures, ← b .before .row33 .ensures, ← b .row34 .ensures, ← q .solve-3x3 .ensures, c .enum-told .given .1)
+    rw (le-ltb _ _ (e .before .if1 .left), le-ltb _ _ (e .if2 .left))
+    (rw (← b .before .before .before .row3 .ensures, ← b .before .before .row32 .ensures, ← b .before .row33 .ensures, ← b .row34 .ensures, ← q .solve-3x3 .ensures, c .enum-told .given .1))
 
 pub probe-3x3-spec : {M : Type 1} → statement M
 probe-3x3-spec =

@@ -61,16 +61,20 @@ unfolding probe4Of
 returns-3 c =
     let q = c .before .before .before in
     let b = q .before .before in
-    let e = b .before .before .before .before .before in
-    rw (le-ltb _ _ (e .before .if1 .left), le-ltb _ _ (e .if2 .left), ← b .before .before .before .before .row4 .ensures, ← b .before .before .before .row42 .ensures, ← b .before .before .row43 .ensures, ← b .before .row44 .ensures, ← b .row45 .ensures, ← q .solve-4x4 .ensures, c .before .solved .given .1)
+    let d = b .before .before in
+    let e = d .before .before .before in
+    rw (le-ltb _ _ (e .before .if1 .left), le-ltb _ _ (e .if2 .left))
+    (rw (← d .before .before .row4 .ensures, ← d .before .row42 .ensures, ← d .row43 .ensures, ← b .before .row44 .ensures, ← b .row45 .ensures, ← q .solve-4x4 .ensures, c .before .solved .given .1))
 
 returns-4 : tie.Need-returns-4
 unfolding probe4Of
 returns-4 c =
     let q = c .before .before in
     let b = q .before .before in
-    let e = b .before .before .before .before .before in
-    rw (le-ltb _ _ (e .before .if1 .left), le-ltb _ _ (e .if2 .left), ← b .before .before .before .before .row4 .ensures, ← b .before .before .before .row42 .ensures, ← b .before .before .row43 .ensures, ← b .before .row44 .ensures, ← b .row45 .ensures, ← q .solve-4x4 .ensures, c .enum-told .given .1)
+    let d = b .before .before in
+    let e = d .before .before .before in
+    rw (le-ltb _ _ (e .before .if1 .left), le-ltb _ _ (e .if2 .left))
+    (rw (← d .before .before .row4 .ensures, ← d .before .row42 .ensures, ← d .row43 .ensures, ← b .before .row44 .ensures, ← b .row45 .ensures, ← q .solve-4x4 .ensures, c .enum-told .given .1))
 
 pub probe-4x4-spec : {M : Type 1} → statement M
 probe-4x4-spec =

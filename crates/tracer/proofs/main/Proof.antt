@@ -1,4 +1,3 @@
--- The line's bytes are there to be lent on.
 use borrow.Author.Needs.{needs}
 use Rattle.answer.proofs.Text.{line-holds, line-count}
 use Rattle.tracer.proofs.main.Statement.{statement}
@@ -19,6 +18,7 @@ slice-aggregate-answer c = search needs
 answer-requires : tie.Need-answer-requires
 answer-requires c κs = search needs
 
+-- the line's bytes are there to be lent on
 array-share-prefix-line : tie.Need-array-share-prefix-line
 array-share-prefix-line c = let e = c .answer .ensures in line-holds _ _ _ _ (e .answer, e .line)
 

@@ -1,19 +1,7 @@
-use borrow.Author.Tests.{le-ltb, lt-ltb}
 use borrow.Author.Needs.{needs}
 use Rattle.probe.specs.Steps.{probeLand}
 use Rattle.probe.proofs.steps.probe_land.Statement.{statement}
 use Rattle.probe.proofs.steps.probe_land.Tie as tie
-
-returns : tie.Need-returns
-unfolding probeLand
-returns c = rw (lt-ltb _ _ (c .if1 .taken))
-
-returns-2 : tie.Need-returns-2
-unfolding probeLand
-returns-2 c = rw (le-ltb _ _ (c .before .if1 .left), lt-ltb _ _ (c .if2 .taken))
-
-read-requires : tie.Need-read-requires
-read-requires c κs = search needs
 
 shared-slice-read-land : tie.Need-shared-slice-read-land
 shared-slice-read-land c = search needs
@@ -33,13 +21,26 @@ enum-told c = search needs
 same-length : tie.Need-same-length
 same-length c = search needs
 
-returns-3 : tie.Need-returns-3
+returns : tie.Need-returns
 unfolding probeLand
-returns-3 c = rw (le-ltb _ _ (c .before .before .before .before .before .before .before .before .before .before .before .if1 .left), le-ltb _ _ (c .before .before .before .before .before .before .before .before .before .before .if2 .left), ← c .before .before .before .before .before .before .before .before .before .read .ensures, ← c .before .before .before .before .before .before .before .land .ensures, c .before .before .before .before .before .met .given .1, ← c .before .before .put-parameters .ensures)
+returns c =
+    let m = c .before .before .before .before .before in
+    let q = m .before .before in
+    rw (← q .land .ensures, m .met .given .1, ← c .before .before .put-parameters .ensures)
 
-returns-4 : tie.Need-returns-4
+returns-2 : tie.Need-returns-2
 unfolding probeLand
-returns-4 c = rw (le-ltb _ _ (c .before .before .before .before .before .before .if1 .left), le-ltb _ _ (c .before .before .before .before .before .if2 .left), ← c .before .before .before .before .read .ensures, ← c .before .before .land .ensures, c .enum-told .given .1)
+returns-2 c = rw (← c .before .before .land .ensures, c .enum-told .given .1)
 
 pub probe-land-spec : {M : Type 1} → statement M
-probe-land-spec = tie.close (tie.spec returns returns-2 read-requires shared-slice-read-land land-requires enum-known-met put-parameters-requires enum-told same-length returns-3 returns-4)
+probe-land-spec =
+    tie.close
+    (tie.spec
+    shared-slice-read-land
+    land-requires
+    enum-known-met
+    put-parameters-requires
+    enum-told
+    same-length
+    returns
+    returns-2)

@@ -1,19 +1,7 @@
-use borrow.Author.Tests.{le-ltb, lt-ltb}
 use borrow.Author.Needs.{needs}
 use Rattle.probe.specs.Steps.{probeLeaving}
 use Rattle.probe.proofs.steps.probe_leaving.Statement.{statement}
 use Rattle.probe.proofs.steps.probe_leaving.Tie as tie
-
-returns : tie.Need-returns
-unfolding probeLeaving
-returns c = rw (lt-ltb _ _ (c .if1 .taken))
-
-returns-2 : tie.Need-returns-2
-unfolding probeLeaving
-returns-2 c = rw (le-ltb _ _ (c .before .if1 .left), lt-ltb _ _ (c .if2 .taken))
-
-read-requires : tie.Need-read-requires
-read-requires c κs = search needs
 
 parameters-requires : tie.Need-parameters-requires
 parameters-requires c κs = search needs
@@ -33,13 +21,23 @@ enum-told c = search needs
 same-length : tie.Need-same-length
 same-length c = search needs
 
-returns-3 : tie.Need-returns-3
+returns : tie.Need-returns
 unfolding probeLeaving
-returns-3 c = rw (le-ltb _ _ (c .before .before .before .before .before .before .before .if1 .left), le-ltb _ _ (c .before .before .before .before .before .before .if2 .left), ← c .before .before .before .before .before .read .ensures, ← c .before .before .before .before .parameters .ensures, ← c .before .before .before .leaving .ensures, c .before .exit .given .1)
+returns c = rw (← c .before .before .before .before .parameters .ensures, ← c .before .before .before .leaving .ensures, c .before .exit .given .1)
 
-returns-4 : tie.Need-returns-4
+returns-2 : tie.Need-returns-2
 unfolding probeLeaving
-returns-4 c = rw (le-ltb _ _ (c .before .before .before .before .before .before .if1 .left), le-ltb _ _ (c .before .before .before .before .before .if2 .left), ← c .before .before .before .before .read .ensures, ← c .before .before .before .parameters .ensures, ← c .before .before .leaving .ensures, c .enum-told .given .1)
+returns-2 c = rw (← c .before .before .before .parameters .ensures, ← c .before .before .leaving .ensures, c .enum-told .given .1)
 
 pub probe-leaving-spec : {M : Type 1} → statement M
-probe-leaving-spec = tie.close (tie.spec returns returns-2 read-requires parameters-requires leaving-requires enum-known-exit slice-write-output enum-told same-length returns-3 returns-4)
+probe-leaving-spec =
+    tie.close
+    (tie.spec
+    parameters-requires
+    leaving-requires
+    enum-known-exit
+    slice-write-output
+    enum-told
+    same-length
+    returns
+    returns-2)

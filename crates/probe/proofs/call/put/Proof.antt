@@ -2,9 +2,9 @@ use mathlib.Core.Path.{refl}
 use lib.ListN.{length-set}
 use borrow.Author.Needs.{needs}
 use native.Mathlib.Omega.{arith}
-use Rattle.probe.specs.Surface.{put3}
-use Rattle.probe.proofs.surface.put.Statement.{statement}
-use Rattle.probe.proofs.surface.put.Tie as tie
+use Rattle.probe.specs.Call.{putThree}
+use Rattle.probe.proofs.call.put.Statement.{statement}
+use Rattle.probe.proofs.call.put.Tie as tie
 
 mul-output : tie.Need-mul-output
 mul-output c = search needs
@@ -34,7 +34,7 @@ same-length : tie.Need-same-length
 same-length c = simp length-set
 
 returns : tie.Need-returns
-unfolding put3
+unfolding putThree
 returns c = refl
 
 pub put-spec : {M : Type 1} → statement M
