@@ -14,14 +14,11 @@ use Rattle.groups.specs.Groups.{width}
 use Rattle.groups.specs.Row.{numbersOf, rowFrom, pointIn, rowOf}
 use Rattle.groups.proofs.Rows.{row-there}
 use Rattle.geometry.specs.declared.point.Point3D.{Point3D}
-use Rattle.geometry.specs.declared.frame.Frame3D.{Frame3D}
 use Rattle.geometry.specs.Vector.{scaleOf}
 use Rattle.geometry.specs.Point.{addVectorOf}
 use Rattle.geometry.specs.Frame.{pointAtOf}
 use Rattle.gap.specs.Gap.{PointFits}
 use Rattle.analytic.specs.declared.surface.Surface.{Surface}
-use Rattle.analytic.specs.declared.surface.Surface.the-variants.{Plane, Cylinder, Cone, Sphere, Torus}
-use Rattle.analytic.specs.Analytic.{planeD0, cylinderD0, coneD0, sphereD0, torusD0}
 use Rattle.analytic.specs.Surface.{evalPoint}
 use Rattle.certificate.specs.Check.{sameNumbers, coordinatesOf, samePoint, sameRow}
 
@@ -79,14 +76,6 @@ equal-row p q e = equal-same (numbersOf p) (numbersOf q) (ap numbersOf e)
 
 -- ---- every coordinate worked out is a sum, and so binary64
 
-frame-fits : (f : Frame3D) (a b c : Float) → PointFits (pointAtOf f a b c)
-unfolding pointAtOf addVectorOf scaleOf
-frame-fits f a b c = record { x-fits = add-fits binary64 _ _; y-fits = add-fits binary64 _ _; z-fits = add-fits binary64 _ _ }
-
 pub fresh-fits : (s : Surface) (u v : Float) → PointFits (evalPoint s u v)
-unfolding evalPoint planeD0 cylinderD0 coneD0 sphereD0 torusD0
-fresh-fits (Plane f) u v = frame-fits f _ _ _
-fresh-fits (Cylinder f r) u v = frame-fits f _ _ _
-fresh-fits (Cone f r a) u v = frame-fits f _ _ _
-fresh-fits (Sphere f r) u v = frame-fits f _ _ _
-fresh-fits (Torus f maj min) u v = frame-fits f _ _ _
+unfolding evalPoint pointAtOf addVectorOf scaleOf
+fresh-fits s u v = record { x-fits = add-fits binary64 _ _; y-fits = add-fits binary64 _ _; z-fits = add-fits binary64 _ _ }
