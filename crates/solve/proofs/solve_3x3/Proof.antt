@@ -1,10 +1,13 @@
 -- Each column is one of the definition, which goes on or gives up.
-use mathlib.Core.Path.{ap, _∙_}
+use mathlib.Core.Path.{_≡_, ap, _∙_}
+use mathlib.Core.List.{List}
 use Prim.{tt}
+use Prim.Native.Nat.{ℕ}
+use lib.Ieee.{Float}
 use lib.Dec.{lit<, lit≤}
 use borrow.Author.Needs.{needs}
 use Rattle.loops.proofs.Loop.{searched-done}
-use Rattle.solve.specs.Solve.{solve3Of, answer3, solution}
+use Rattle.solve.specs.Solve.{system, solving, solveOf, solve3Of, answer3, solution}
 use Rattle.solve.proofs.Laws.{starts, goes-on, leaves}
 use Rattle.solve.proofs.solve_3x3.Statement.{statement}
 use Rattle.solve.proofs.solve_3x3.Tie as tie
@@ -30,17 +33,6 @@ index-2-gives-up c = search needs
 gives-up-requires : tie.Need-gives-up-requires
 gives-up-requires c κs = search needs
 
-returns : tie.Need-returns
-unfolding solve3Of
-returns c =
-    let g0 = c .before in
-    let s0 = g0 .before .before in
-    let p0 = s0 .before .before in
-    let st = p0 .before in
-    let a = st .before .args in
-    let i0 = starts 3 (a .a) (a .b) (a .tol) (st .scale3 .ensures) in
-    ap answer3 (leaves 3 _ _ 0 _ _ (lit< tt) i0 (p0 .pivot3 .ensures .0) (s0 .before .swap-rows3 .ensures) (s0 .swap3 .ensures) (g0 .gives-up .ensures) (c .if1 .taken))
-
 eliminate3-requires : tie.Need-eliminate3-requires
 eliminate3-requires c κs = search needs
 
@@ -61,23 +53,6 @@ index-2-gives-up-2 c = search needs
 
 gives-up-requires-2 : tie.Need-gives-up-requires-2
 gives-up-requires-2 c κs = search needs
-
-returns-2 : tie.Need-returns-2
-unfolding solve3Of
-returns-2 c =
-    let g1 = c .before in
-    let s1 = g1 .before .before in
-    let p1 = s1 .before .before in
-    let e0 = p1 .before in
-    let o0 = e0 .before .before in
-    let g0 = o0 .before in
-    let s0 = g0 .before .before in
-    let p0 = s0 .before .before in
-    let st = p0 .before in
-    let a = st .before .args in
-    let i0 = starts 3 (a .a) (a .b) (a .tol) (st .scale3 .ensures) in
-    let i1 = goes-on 3 _ _ 0 _ _ (lit< tt) i0 (p0 .pivot3 .ensures .0) (s0 .before .swap-rows3 .ensures) (s0 .swap3 .ensures) (g0 .gives-up .ensures) (o0 .if1 .left) (e0 .eliminate3 .ensures) in
-    ap answer3 (leaves 3 _ _ 1 _ _ (lit< tt) i1 (p1 .pivot32 .ensures .0) (s1 .before .swap-rows32 .ensures) (s1 .swap32 .ensures) (g1 .gives-up2 .ensures) (c .if2 .taken))
 
 eliminate3-requires-2 : tie.Need-eliminate3-requires-2
 eliminate3-requires-2 c κs = search needs
@@ -100,29 +75,6 @@ index-2-gives-up-3 c = search needs
 gives-up-requires-3 : tie.Need-gives-up-requires-3
 gives-up-requires-3 c κs = search needs
 
-returns-3 : tie.Need-returns-3
-unfolding solve3Of
-returns-3 c =
-    let g2 = c .before in
-    let s2 = g2 .before .before in
-    let p2 = s2 .before .before in
-    let e1 = p2 .before in
-    let o1 = e1 .before .before in
-    let g1 = o1 .before in
-    let s1 = g1 .before .before in
-    let p1 = s1 .before .before in
-    let e0 = p1 .before in
-    let o0 = e0 .before .before in
-    let g0 = o0 .before in
-    let s0 = g0 .before .before in
-    let p0 = s0 .before .before in
-    let st = p0 .before in
-    let a = st .before .args in
-    let i0 = starts 3 (a .a) (a .b) (a .tol) (st .scale3 .ensures) in
-    let i1 = goes-on 3 _ _ 0 _ _ (lit< tt) i0 (p0 .pivot3 .ensures .0) (s0 .before .swap-rows3 .ensures) (s0 .swap3 .ensures) (g0 .gives-up .ensures) (o0 .if1 .left) (e0 .eliminate3 .ensures) in
-    let i2 = goes-on 3 _ _ 1 _ _ (lit< tt) i1 (p1 .pivot32 .ensures .0) (s1 .before .swap-rows32 .ensures) (s1 .swap32 .ensures) (g1 .gives-up2 .ensures) (o1 .if2 .left) (e1 .eliminate32 .ensures) in
-    ap answer3 (leaves 3 _ _ 2 _ _ (lit< tt) i2 (p2 .pivot33 .ensures .0) (s2 .before .swap-rows33 .ensures) (s2 .swap33 .ensures) (g2 .gives-up3 .ensures) (c .if3 .taken))
-
 eliminate3-requires-3 : tie.Need-eliminate3-requires-3
 eliminate3-requires-3 c κs = search needs
 
@@ -138,31 +90,76 @@ array-read-t44 c = search needs
 array-read-t47 : tie.Need-array-read-t47
 array-read-t47 c = search needs
 
+-- column col begins with these rows and this right side
+abbrev Column : ℕ → tie.After-scale3 → List (List Float) → List Float → Type 0
+Column col st m b = let a = st .before .args in solving 3 (a .tol) (st .scale3 .result) col (system m b) ≡ solveOf 3 (a .a) (a .b) (a .tol)
+
+column0 : (st : tie.After-scale3) → Column 0 st (st .before .args .a) (st .before .args .b)
+column0 st = let a = st .before .args in starts 3 (a .a) (a .b) (a .tol) (st .scale3 .ensures)
+
+abbrev start1 : tie.After-eliminate3 → tie.After-scale3
+start1 e = e .before .before .before .before .before .before .before .before
+
+column1 : (e : tie.After-eliminate3) → Column 1 (start1 e) (e .eliminate3 .result) (e .eliminate3 .last .1 .0)
+column1 e =
+    let g = e .before .before .before in
+    let s = g .before .before in
+    let p = s .before .before in
+    goes-on 3 _ _ 0 _ _ (lit< tt) (column0 (p .before)) (p .pivot3 .ensures .0) (s .before .swap-rows3 .ensures)
+    (s .swap3 .ensures) (g .gives-up .ensures) (e .before .before .if1 .left) (e .eliminate3 .ensures)
+
+abbrev start2 : tie.After-eliminate32 → tie.After-scale3
+start2 e = start1 (e .before .before .before .before .before .before .before .before)
+
+column2 : (e : tie.After-eliminate32) → Column 2 (start2 e) (e .eliminate32 .result) (e .eliminate32 .last .1 .0)
+column2 e =
+    let g = e .before .before .before in
+    let s = g .before .before in
+    let p = s .before .before in
+    goes-on 3 _ _ 1 _ _ (lit< tt) (column1 (p .before)) (p .pivot32 .ensures .0) (s .before .swap-rows32 .ensures)
+    (s .swap32 .ensures) (g .gives-up2 .ensures) (e .before .before .if2 .left) (e .eliminate32 .ensures)
+
+abbrev start3 : tie.After-eliminate33 → tie.After-scale3
+start3 e = start2 (e .before .before .before .before .before .before .before .before)
+
+column3 : (e : tie.After-eliminate33) → Column 3 (start3 e) (e .eliminate33 .result) (e .eliminate33 .last .1 .0)
+column3 e =
+    let g = e .before .before .before in
+    let s = g .before .before in
+    let p = s .before .before in
+    goes-on 3 _ _ 2 _ _ (lit< tt) (column2 (p .before)) (p .pivot33 .ensures .0) (s .before .swap-rows33 .ensures)
+    (s .swap33 .ensures) (g .gives-up3 .ensures) (e .before .before .if3 .left) (e .eliminate33 .ensures)
+
+returns : tie.Need-returns
+unfolding solve3Of
+returns c =
+    let g = c .before in
+    let s = g .before .before in
+    let p = s .before .before in
+    ap answer3 (leaves 3 _ _ 0 _ _ (lit< tt) (column0 (p .before)) (p .pivot3 .ensures .0) (s .before .swap-rows3 .ensures)
+    (s .swap3 .ensures) (g .gives-up .ensures) (c .if1 .taken))
+
+returns-2 : tie.Need-returns-2
+unfolding solve3Of
+returns-2 c =
+    let g = c .before in
+    let s = g .before .before in
+    let p = s .before .before in
+    ap answer3 (leaves 3 _ _ 1 _ _ (lit< tt) (column1 (p .before)) (p .pivot32 .ensures .0) (s .before .swap-rows32 .ensures)
+    (s .swap32 .ensures) (g .gives-up2 .ensures) (c .if2 .taken))
+
+returns-3 : tie.Need-returns-3
+unfolding solve3Of
+returns-3 c =
+    let g = c .before in
+    let s = g .before .before in
+    let p = s .before .before in
+    ap answer3 (leaves 3 _ _ 2 _ _ (lit< tt) (column2 (p .before)) (p .pivot33 .ensures .0) (s .before .swap-rows33 .ensures)
+    (s .swap33 .ensures) (g .gives-up3 .ensures) (c .if3 .taken))
+
 returns-4 : tie.Need-returns-4
 unfolding solve3Of
-returns-4 c =
-    let e2 = c .before in
-    let o2 = e2 .before .before in
-    let g2 = o2 .before in
-    let s2 = g2 .before .before in
-    let p2 = s2 .before .before in
-    let e1 = p2 .before in
-    let o1 = e1 .before .before in
-    let g1 = o1 .before in
-    let s1 = g1 .before .before in
-    let p1 = s1 .before .before in
-    let e0 = p1 .before in
-    let o0 = e0 .before .before in
-    let g0 = o0 .before in
-    let s0 = g0 .before .before in
-    let p0 = s0 .before .before in
-    let st = p0 .before in
-    let a = st .before .args in
-    let i0 = starts 3 (a .a) (a .b) (a .tol) (st .scale3 .ensures) in
-    let i1 = goes-on 3 _ _ 0 _ _ (lit< tt) i0 (p0 .pivot3 .ensures .0) (s0 .before .swap-rows3 .ensures) (s0 .swap3 .ensures) (g0 .gives-up .ensures) (o0 .if1 .left) (e0 .eliminate3 .ensures) in
-    let i2 = goes-on 3 _ _ 1 _ _ (lit< tt) i1 (p1 .pivot32 .ensures .0) (s1 .before .swap-rows32 .ensures) (s1 .swap32 .ensures) (g1 .gives-up2 .ensures) (o1 .if2 .left) (e1 .eliminate32 .ensures) in
-    let i3 = goes-on 3 _ _ 2 _ _ (lit< tt) i2 (p2 .pivot33 .ensures .0) (s2 .before .swap-rows33 .ensures) (s2 .swap33 .ensures) (g2 .gives-up3 .ensures) (o2 .if3 .left) (e2 .eliminate33 .ensures) in
-    ap answer3 (ap solution (c .back3 .ensures) ∙ searched-done _ _ 3 3 (lit≤ tt) i3)
+returns-4 c = ap answer3 (ap solution (c .back3 .ensures) ∙ searched-done _ _ 3 3 (lit≤ tt) (column3 (c .before)))
 
 pub solve-3x3-spec : {M : Type 1} → statement M
 solve-3x3-spec =

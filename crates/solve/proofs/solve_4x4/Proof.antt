@@ -1,10 +1,13 @@
 -- Each column is one of the definition, which goes on or gives up.
-use mathlib.Core.Path.{ap, _∙_}
+use mathlib.Core.Path.{_≡_, ap, _∙_}
+use mathlib.Core.List.{List}
 use Prim.{tt}
+use Prim.Native.Nat.{ℕ}
+use lib.Ieee.{Float}
 use lib.Dec.{lit<, lit≤}
 use borrow.Author.Needs.{needs}
 use Rattle.loops.proofs.Loop.{searched-done}
-use Rattle.solve.specs.Solve.{solve4Of, answer4, solution}
+use Rattle.solve.specs.Solve.{system, solving, solveOf, solve4Of, answer4, solution}
 use Rattle.solve.proofs.Laws.{starts, goes-on, leaves}
 use Rattle.solve.proofs.solve_4x4.Statement.{statement}
 use Rattle.solve.proofs.solve_4x4.Tie as tie
@@ -30,17 +33,6 @@ index-2-gives-up c = search needs
 gives-up-requires : tie.Need-gives-up-requires
 gives-up-requires c κs = search needs
 
-returns : tie.Need-returns
-unfolding solve4Of
-returns c =
-    let g0 = c .before in
-    let s0 = g0 .before .before in
-    let p0 = s0 .before .before in
-    let st = p0 .before in
-    let a = st .before .args in
-    let i0 = starts 4 (a .a) (a .b) (a .tol) (st .scale4 .ensures) in
-    ap answer4 (leaves 4 _ _ 0 _ _ (lit< tt) i0 (p0 .pivot4 .ensures .0) (s0 .before .swap-rows4 .ensures) (s0 .swap4 .ensures) (g0 .gives-up .ensures) (c .if1 .taken))
-
 eliminate4-requires : tie.Need-eliminate4-requires
 eliminate4-requires c κs = search needs
 
@@ -61,23 +53,6 @@ index-2-gives-up-2 c = search needs
 
 gives-up-requires-2 : tie.Need-gives-up-requires-2
 gives-up-requires-2 c κs = search needs
-
-returns-2 : tie.Need-returns-2
-unfolding solve4Of
-returns-2 c =
-    let g1 = c .before in
-    let s1 = g1 .before .before in
-    let p1 = s1 .before .before in
-    let e0 = p1 .before in
-    let o0 = e0 .before .before in
-    let g0 = o0 .before in
-    let s0 = g0 .before .before in
-    let p0 = s0 .before .before in
-    let st = p0 .before in
-    let a = st .before .args in
-    let i0 = starts 4 (a .a) (a .b) (a .tol) (st .scale4 .ensures) in
-    let i1 = goes-on 4 _ _ 0 _ _ (lit< tt) i0 (p0 .pivot4 .ensures .0) (s0 .before .swap-rows4 .ensures) (s0 .swap4 .ensures) (g0 .gives-up .ensures) (o0 .if1 .left) (e0 .eliminate4 .ensures) in
-    ap answer4 (leaves 4 _ _ 1 _ _ (lit< tt) i1 (p1 .pivot42 .ensures .0) (s1 .before .swap-rows42 .ensures) (s1 .swap42 .ensures) (g1 .gives-up2 .ensures) (c .if2 .taken))
 
 eliminate4-requires-2 : tie.Need-eliminate4-requires-2
 eliminate4-requires-2 c κs = search needs
@@ -100,29 +75,6 @@ index-2-gives-up-3 c = search needs
 gives-up-requires-3 : tie.Need-gives-up-requires-3
 gives-up-requires-3 c κs = search needs
 
-returns-3 : tie.Need-returns-3
-unfolding solve4Of
-returns-3 c =
-    let g2 = c .before in
-    let s2 = g2 .before .before in
-    let p2 = s2 .before .before in
-    let e1 = p2 .before in
-    let o1 = e1 .before .before in
-    let g1 = o1 .before in
-    let s1 = g1 .before .before in
-    let p1 = s1 .before .before in
-    let e0 = p1 .before in
-    let o0 = e0 .before .before in
-    let g0 = o0 .before in
-    let s0 = g0 .before .before in
-    let p0 = s0 .before .before in
-    let st = p0 .before in
-    let a = st .before .args in
-    let i0 = starts 4 (a .a) (a .b) (a .tol) (st .scale4 .ensures) in
-    let i1 = goes-on 4 _ _ 0 _ _ (lit< tt) i0 (p0 .pivot4 .ensures .0) (s0 .before .swap-rows4 .ensures) (s0 .swap4 .ensures) (g0 .gives-up .ensures) (o0 .if1 .left) (e0 .eliminate4 .ensures) in
-    let i2 = goes-on 4 _ _ 1 _ _ (lit< tt) i1 (p1 .pivot42 .ensures .0) (s1 .before .swap-rows42 .ensures) (s1 .swap42 .ensures) (g1 .gives-up2 .ensures) (o1 .if2 .left) (e1 .eliminate42 .ensures) in
-    ap answer4 (leaves 4 _ _ 2 _ _ (lit< tt) i2 (p2 .pivot43 .ensures .0) (s2 .before .swap-rows43 .ensures) (s2 .swap43 .ensures) (g2 .gives-up3 .ensures) (c .if3 .taken))
-
 eliminate4-requires-3 : tie.Need-eliminate4-requires-3
 eliminate4-requires-3 c κs = search needs
 
@@ -144,35 +96,6 @@ index-2-gives-up-4 c = search needs
 gives-up-requires-4 : tie.Need-gives-up-requires-4
 gives-up-requires-4 c κs = search needs
 
-returns-4 : tie.Need-returns-4
-unfolding solve4Of
-returns-4 c =
-    let g3 = c .before in
-    let s3 = g3 .before .before in
-    let p3 = s3 .before .before in
-    let e2 = p3 .before in
-    let o2 = e2 .before .before in
-    let g2 = o2 .before in
-    let s2 = g2 .before .before in
-    let p2 = s2 .before .before in
-    let e1 = p2 .before in
-    let o1 = e1 .before .before in
-    let g1 = o1 .before in
-    let s1 = g1 .before .before in
-    let p1 = s1 .before .before in
-    let e0 = p1 .before in
-    let o0 = e0 .before .before in
-    let g0 = o0 .before in
-    let s0 = g0 .before .before in
-    let p0 = s0 .before .before in
-    let st = p0 .before in
-    let a = st .before .args in
-    let i0 = starts 4 (a .a) (a .b) (a .tol) (st .scale4 .ensures) in
-    let i1 = goes-on 4 _ _ 0 _ _ (lit< tt) i0 (p0 .pivot4 .ensures .0) (s0 .before .swap-rows4 .ensures) (s0 .swap4 .ensures) (g0 .gives-up .ensures) (o0 .if1 .left) (e0 .eliminate4 .ensures) in
-    let i2 = goes-on 4 _ _ 1 _ _ (lit< tt) i1 (p1 .pivot42 .ensures .0) (s1 .before .swap-rows42 .ensures) (s1 .swap42 .ensures) (g1 .gives-up2 .ensures) (o1 .if2 .left) (e1 .eliminate42 .ensures) in
-    let i3 = goes-on 4 _ _ 2 _ _ (lit< tt) i2 (p2 .pivot43 .ensures .0) (s2 .before .swap-rows43 .ensures) (s2 .swap43 .ensures) (g2 .gives-up3 .ensures) (o2 .if3 .left) (e2 .eliminate43 .ensures) in
-    ap answer4 (leaves 4 _ _ 3 _ _ (lit< tt) i3 (p3 .pivot44 .ensures .0) (s3 .before .swap-rows44 .ensures) (s3 .swap44 .ensures) (g3 .gives-up4 .ensures) (c .if4 .taken))
-
 eliminate4-requires-4 : tie.Need-eliminate4-requires-4
 eliminate4-requires-4 c κs = search needs
 
@@ -191,37 +114,96 @@ array-read-t57 c = search needs
 array-read-t60 : tie.Need-array-read-t60
 array-read-t60 c = search needs
 
+-- column col begins with these rows and this right side
+abbrev Column : ℕ → tie.After-scale4 → List (List Float) → List Float → Type 0
+Column col st m b = let a = st .before .args in solving 4 (a .tol) (st .scale4 .result) col (system m b) ≡ solveOf 4 (a .a) (a .b) (a .tol)
+
+column0 : (st : tie.After-scale4) → Column 0 st (st .before .args .a) (st .before .args .b)
+column0 st = let a = st .before .args in starts 4 (a .a) (a .b) (a .tol) (st .scale4 .ensures)
+
+abbrev start1 : tie.After-eliminate4 → tie.After-scale4
+start1 e = e .before .before .before .before .before .before .before .before
+
+column1 : (e : tie.After-eliminate4) → Column 1 (start1 e) (e .eliminate4 .result) (e .eliminate4 .last .1 .0)
+column1 e =
+    let g = e .before .before .before in
+    let s = g .before .before in
+    let p = s .before .before in
+    goes-on 4 _ _ 0 _ _ (lit< tt) (column0 (p .before)) (p .pivot4 .ensures .0) (s .before .swap-rows4 .ensures)
+    (s .swap4 .ensures) (g .gives-up .ensures) (e .before .before .if1 .left) (e .eliminate4 .ensures)
+
+abbrev start2 : tie.After-eliminate42 → tie.After-scale4
+start2 e = start1 (e .before .before .before .before .before .before .before .before)
+
+column2 : (e : tie.After-eliminate42) → Column 2 (start2 e) (e .eliminate42 .result) (e .eliminate42 .last .1 .0)
+column2 e =
+    let g = e .before .before .before in
+    let s = g .before .before in
+    let p = s .before .before in
+    goes-on 4 _ _ 1 _ _ (lit< tt) (column1 (p .before)) (p .pivot42 .ensures .0) (s .before .swap-rows42 .ensures)
+    (s .swap42 .ensures) (g .gives-up2 .ensures) (e .before .before .if2 .left) (e .eliminate42 .ensures)
+
+abbrev start3 : tie.After-eliminate43 → tie.After-scale4
+start3 e = start2 (e .before .before .before .before .before .before .before .before)
+
+column3 : (e : tie.After-eliminate43) → Column 3 (start3 e) (e .eliminate43 .result) (e .eliminate43 .last .1 .0)
+column3 e =
+    let g = e .before .before .before in
+    let s = g .before .before in
+    let p = s .before .before in
+    goes-on 4 _ _ 2 _ _ (lit< tt) (column2 (p .before)) (p .pivot43 .ensures .0) (s .before .swap-rows43 .ensures)
+    (s .swap43 .ensures) (g .gives-up3 .ensures) (e .before .before .if3 .left) (e .eliminate43 .ensures)
+
+abbrev start4 : tie.After-eliminate44 → tie.After-scale4
+start4 e = start3 (e .before .before .before .before .before .before .before .before)
+
+column4 : (e : tie.After-eliminate44) → Column 4 (start4 e) (e .eliminate44 .result) (e .eliminate44 .last .1 .0)
+column4 e =
+    let g = e .before .before .before in
+    let s = g .before .before in
+    let p = s .before .before in
+    goes-on 4 _ _ 3 _ _ (lit< tt) (column3 (p .before)) (p .pivot44 .ensures .0) (s .before .swap-rows44 .ensures)
+    (s .swap44 .ensures) (g .gives-up4 .ensures) (e .before .before .if4 .left) (e .eliminate44 .ensures)
+
+returns : tie.Need-returns
+unfolding solve4Of
+returns c =
+    let g = c .before in
+    let s = g .before .before in
+    let p = s .before .before in
+    ap answer4 (leaves 4 _ _ 0 _ _ (lit< tt) (column0 (p .before)) (p .pivot4 .ensures .0) (s .before .swap-rows4 .ensures)
+    (s .swap4 .ensures) (g .gives-up .ensures) (c .if1 .taken))
+
+returns-2 : tie.Need-returns-2
+unfolding solve4Of
+returns-2 c =
+    let g = c .before in
+    let s = g .before .before in
+    let p = s .before .before in
+    ap answer4 (leaves 4 _ _ 1 _ _ (lit< tt) (column1 (p .before)) (p .pivot42 .ensures .0) (s .before .swap-rows42 .ensures)
+    (s .swap42 .ensures) (g .gives-up2 .ensures) (c .if2 .taken))
+
+returns-3 : tie.Need-returns-3
+unfolding solve4Of
+returns-3 c =
+    let g = c .before in
+    let s = g .before .before in
+    let p = s .before .before in
+    ap answer4 (leaves 4 _ _ 2 _ _ (lit< tt) (column2 (p .before)) (p .pivot43 .ensures .0) (s .before .swap-rows43 .ensures)
+    (s .swap43 .ensures) (g .gives-up3 .ensures) (c .if3 .taken))
+
+returns-4 : tie.Need-returns-4
+unfolding solve4Of
+returns-4 c =
+    let g = c .before in
+    let s = g .before .before in
+    let p = s .before .before in
+    ap answer4 (leaves 4 _ _ 3 _ _ (lit< tt) (column3 (p .before)) (p .pivot44 .ensures .0) (s .before .swap-rows44 .ensures)
+    (s .swap44 .ensures) (g .gives-up4 .ensures) (c .if4 .taken))
+
 returns-5 : tie.Need-returns-5
 unfolding solve4Of
-returns-5 c =
-    let e3 = c .before in
-    let o3 = e3 .before .before in
-    let g3 = o3 .before in
-    let s3 = g3 .before .before in
-    let p3 = s3 .before .before in
-    let e2 = p3 .before in
-    let o2 = e2 .before .before in
-    let g2 = o2 .before in
-    let s2 = g2 .before .before in
-    let p2 = s2 .before .before in
-    let e1 = p2 .before in
-    let o1 = e1 .before .before in
-    let g1 = o1 .before in
-    let s1 = g1 .before .before in
-    let p1 = s1 .before .before in
-    let e0 = p1 .before in
-    let o0 = e0 .before .before in
-    let g0 = o0 .before in
-    let s0 = g0 .before .before in
-    let p0 = s0 .before .before in
-    let st = p0 .before in
-    let a = st .before .args in
-    let i0 = starts 4 (a .a) (a .b) (a .tol) (st .scale4 .ensures) in
-    let i1 = goes-on 4 _ _ 0 _ _ (lit< tt) i0 (p0 .pivot4 .ensures .0) (s0 .before .swap-rows4 .ensures) (s0 .swap4 .ensures) (g0 .gives-up .ensures) (o0 .if1 .left) (e0 .eliminate4 .ensures) in
-    let i2 = goes-on 4 _ _ 1 _ _ (lit< tt) i1 (p1 .pivot42 .ensures .0) (s1 .before .swap-rows42 .ensures) (s1 .swap42 .ensures) (g1 .gives-up2 .ensures) (o1 .if2 .left) (e1 .eliminate42 .ensures) in
-    let i3 = goes-on 4 _ _ 2 _ _ (lit< tt) i2 (p2 .pivot43 .ensures .0) (s2 .before .swap-rows43 .ensures) (s2 .swap43 .ensures) (g2 .gives-up3 .ensures) (o2 .if3 .left) (e2 .eliminate43 .ensures) in
-    let i4 = goes-on 4 _ _ 3 _ _ (lit< tt) i3 (p3 .pivot44 .ensures .0) (s3 .before .swap-rows44 .ensures) (s3 .swap44 .ensures) (g3 .gives-up4 .ensures) (o3 .if4 .left) (e3 .eliminate44 .ensures) in
-    ap answer4 (ap solution (c .back4 .ensures) ∙ searched-done _ _ 4 4 (lit≤ tt) i4)
+returns-5 c = ap answer4 (ap solution (c .back4 .ensures) ∙ searched-done _ _ 4 4 (lit≤ tt) (column4 (c .before)))
 
 pub solve-4x4-spec : {M : Type 1} → statement M
 solve-4x4-spec =
