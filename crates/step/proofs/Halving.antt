@@ -1,15 +1,16 @@
 -- The walk asks for no stride above 0.1, and 37 halvings leave none untried: under a fit tolerance any number from 37 on gives the same.
-use mathlib.Core.Path.{_≡_, refl, sym, ap, subst, _∙_}
+use mathlib.Core.Path.{_≡_, refl, sym, ap, _∙_}
 use mathlib.Core.Logic.{inl, inr}
 use mathlib.Core.Bool.{Bool, true, false, not}
 use Prim.Native.Nat.{ℕ, zero, suc, _+_, _*_, _^_, _≤_, _<_}
 use native.Mathlib.Omega.{arith}
 use native.Mathlib.Nat.{le-trans, le-of-eq, lt-of-not-le, not-le-of-lt, eq-or-lt-of-le, mul-assoc, mul-one}
+use denote.Floats.{passes}
 use lib.Dec.{T, lit≤, lit<}
 use lib.Pow.{pow-add, pow-mono}
 use lib.Ieee.{Float, nan, inf, fin, binary64, ofBits, fits, isNan}
 use lib.Ieee.Fits.{mul-fits}
-use lib.Ieee.Positive.{positive, positive-finite, between}
+use lib.Ieee.Positive.{positive-finite, between}
 use lib.Ieee.Scale.{finite}
 use Rattle.loops.specs.Loop.{pick, Flow, on, out, searched}
 use Rattle.loops.proofs.Loop.{Kept, searched-end, searched-leave, searched-out, searched-step}
@@ -120,7 +121,7 @@ module _ (a b : Patch) (tol : Tolerance) (dir : Float) (w : Walker) (fit : T (to
       after l Nothing = again (tol .confusion) low i h v l
 
       choice : (t : Bool) → (tol .confusion ≤? h) ≡ t → Going (i + 1) (pick t (afterAttempt h (attemptOf a b tol dir w h)) (out Nothing))
-      choice true e = after (subst T (sym e) tt) (attemptOf a b tol dir w h)
+      choice true e = after (passes _ e) (attemptOf a b tol dir w h)
       choice false e = tt
 
   abbrev run : ℕ → ℕ → Flow Float Stride → Stride
@@ -131,7 +132,7 @@ module _ (a b : Patch) (tol : Tolerance) (dir : Float) (w : Walker) (fit : T (to
   spent n i h v l k = choice (tol .confusion ≤? h) refl
     where
       choice : (t : Bool) → (tol .confusion ≤? h) ≡ t → halvings a b tol dir w i n h ≡ Nothing
-      choice true e = absurd (not-le-of-lt (below (tol .confusion) low i h v (subst T (sym e) tt)) l)
+      choice true e = absurd (not-le-of-lt (below (tol .confusion) low i h v (passes _ e)) l)
       choice false e = elim (eq-or-lt-of-le k) [
         | inl d ↦ searched-end (strideBody a b tol dir w) noStride i n h (le-of-eq (sym d))
         | inr d ↦ sym (searched-leave (strideBody a b tol dir w) noStride i n d (rw e) refl)

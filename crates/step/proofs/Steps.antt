@@ -1,13 +1,13 @@
 -- What every step of the walk keeps: a new point is A's own for its parameters, under a fit tolerance an intersection, and its computed
 -- chord from the last is at most 0.2; a half closes only when it holds 3 points.
-use mathlib.Core.Path.{_≡_, refl, sym, subst}
-use mathlib.Core.Bool.{Bool, true, false, _&&_}
+use mathlib.Core.Path.{_≡_, refl, subst}
+use mathlib.Core.Bool.{Bool, true, false}
 use Prim.Native.Nat.{ℕ, _≤_}
-use borrow.Author.Tests.{leb-true}
-use lib.Dec.{T, leb}
+use denote.Floats.{passes}
+use lib.Dec.{T, leb, leb→le}
 use lib.Ieee.{Float}
 use lib.Ieee.Fits.{and-l, and-r}
-use Rattle.loops.specs.Loop.{pick, Flow, out}
+use Rattle.loops.specs.Loop.{pick, out}
 use Rattle.loops.proofs.Loop.{Kept, searched-keeps}
 use Rattle.number.specs.Operators.{bits, _⊗_, _<?_, _≤?_}
 use Rattle.number.specs.Helpers.{two}
@@ -67,7 +67,7 @@ module _ (a b : Patch) (tol : Tolerance) (dir : Float) (w : Walker) where
 
   landing : (h : Float) (y : Parameters) → Good y → (t : Bool) → landingKept w h (pointA a y) ≡ t
       → StrideFine (pick t (stride.Edge y (pointA a y)) stride.Nothing)
-  landing h y g true e = record { own = refl; good = g; chord = edge-chord h (pointA a y) (subst T (sym e) tt) }
+  landing h y g true e = record { own = refl; good = g; chord = edge-chord h (pointA a y) (passes _ e) }
   landing h y g false e = tt
 
   landed-fine : (h : Float) (guess : Parameters) (pin : ℕ) (bound : Float) (m : Met) → landOf a b guess pin bound tol ≡ m → StrideFine (afterLanding a w h m)
@@ -87,7 +87,7 @@ module _ (a b : Patch) (tol : Tolerance) (dir : Float) (w : Walker) where
         where
           at : (t : Bool) → acceptedOf (tol .confusion) w h ty chord turned ≡ t
               → StrideFine (pick t (stride.Inner (nextWalker y (pointA a y) ty chord turned) h) stride.Nothing)
-          at true e = record { own = refl; good = g; chord = subst (λ (l : Float). T (l ≤? longestChord)) d (accepted-chord h ty chord turned (subst T (sym e) tt)) }
+          at true e = record { own = refl; good = g; chord = subst (λ (l : Float). T (l ≤? longestChord)) d (accepted-chord h ty chord turned (passes _ e)) }
           at false e = tt
 
   tangent-fine : (h : Float) (y : Parameters) → Good y → (d : Direction) → StrideFine (afterTangent a (tol .confusion) dir w h y d)
@@ -137,10 +137,6 @@ round-held : (confusion : Float) (start : Point3D) (held : ℕ) (p q : Point3D) 
 unfolding cameRound
 round-held confusion start held p q t = and-l (leb 3 held) (closesOf confusion start p q) t
 
-of-T : (t : Bool) → T t → t ≡ true
-of-T true h = refl
-of-T false h = absurd h
-
 module _ (a b : Patch) (tol : Tolerance) (held : ℕ) (p : Point3D) where
   inner-fine : (start : Point3D) (next : Walker) (h : Float) → Fine a b tol p (next .x) (next .p)
       → SteppedFine a b tol held p (innerStep (tol .confusion) start held p next h)
@@ -149,7 +145,7 @@ module _ (a b : Patch) (tol : Tolerance) (held : ℕ) (p : Point3D) where
     where
       go : (t : Bool) → cameRound (tol .confusion) start held p (next .p) ≡ t
           → SteppedFine a b tol held p (pick t (Closed (nearStart start p h)) (Onward next (nextStride (tol .confusion) h (next .curvature))))
-      go true e = leb-true 3 held (of-T (leb 3 held) (round-held (tol .confusion) start held p (next .p) (subst T (sym e) tt)))
+      go true e = leb→le 3 held (round-held (tol .confusion) start held p (next .p) (passes _ e))
       go false e = f
 
   edge-fine : (y : Parameters) (q : Point3D) → Fine a b tol p y q → SteppedFine a b tol held p (edgeStep (tol .confusion) p y q)

@@ -2,12 +2,12 @@
 use mathlib.Core.Path.{_≡_, refl, sym, subst}
 use mathlib.Core.Bool.{Bool, true, false, not, cond}
 use lib.Dec.{T}
-use lib.Ieee.{Float, nan, inf, fin, binary64, fits, isNan, ofBits, mul, toBits}
+use lib.Ieee.{Float, binary64, fits, isNan, ofBits, mul, toBits}
 use lib.Ieee.Positive.{positive, positive-finite, between, mul-mono}
 use Rattle.number.specs.Operators.{bits, _⊗_, _<?_, _≤?_}
-use Rattle.number.specs.Units.{neg?}
 use Rattle.number.specs.Helpers.{maxOf, minPositive}
-use Rattle.number.proofs.Order.{lt→not-le, le-lt-through, le-self}
+use Rattle.number.proofs.Order.{lt→not-le, le-lt-through, le-self, le-numbers}
+use Rattle.number.proofs.Scaling.{unsigned}
 use Rattle.sqrt.specs.Sqrt.{sqrtOf, roundRoot}
 use Rattle.sqrt.proofs.Laws.{sqrt-mono}
 
@@ -61,18 +61,6 @@ fits-top : T (fits binary64 top)
 unfolding ofBits fits
 fits-top = tt
 
-not-negative : (x : Float) → T (positive x) → neg? x ≡ false
-not-negative nan p = absurd p
-not-negative (inf s) p = absurd p
-not-negative (fin true m e) p = absurd p
-not-negative (fin false m e) p = refl
-
-number : (x : Float) → T (positive x) → T (not (isNan x))
-unfolding isNan
-number nan p = absurd p
-number (inf s) p = absurd p
-number (fin s m e) p = tt
-
 -- a moderate number: from the smallest normal number to 2^20
 pub record Moderate (x : Float) : Type 0 where
   pub fit : T (fits binary64 x)
@@ -86,13 +74,13 @@ root-least : (x : Float) → Moderate x → T (low ≤? sqrtOf x)
 root-least x m =
     let p = positive-of x m in
     subst (λ (y : Float). T (y ≤? sqrtOf x)) low-is
-    (sqrt-mono minPositive x fits-least (m .fit) (positive-finite minPositive positive-least) (positive-finite x p) (not-negative minPositive positive-least) (not-negative x p) (m .least))
+    (sqrt-mono minPositive x fits-least (m .fit) (positive-finite minPositive positive-least) (positive-finite x p) (unsigned minPositive positive-least) (unsigned x p) (m .least))
 
 root-most : (x : Float) → Moderate x → T (sqrtOf x ≤? high)
 root-most x m =
     let p = positive-of x m in
     subst (λ (y : Float). T (sqrtOf x ≤? y)) high-is
-    (sqrt-mono x top (m .fit) fits-top (positive-finite x p) (positive-finite top positive-top) (not-negative x p) (not-negative top positive-top) (m .most))
+    (sqrt-mono x top (m .fit) fits-top (positive-finite x p) (positive-finite top positive-top) (unsigned x p) (unsigned top positive-top) (m .most))
 
 module _ {x y : Float} (mx : Moderate x) (my : Moderate y) where
   positive-root : (z : Float) → Moderate z → T (positive (sqrtOf z))
@@ -117,7 +105,7 @@ module _ {x y : Float} (mx : Moderate x) (my : Moderate y) where
   -- the greater of the two is the scale itself
   greater : maxOf scale minPositive ≡ scale
   unfolding maxOf
-  greater = go (isNan scale) (isNan minPositive) (scale <? minPositive) (number scale positive-scale) (λ t. lt→not-le scale minPositive t scale-least)
+  greater = go (isNan scale) (isNan minPositive) (scale <? minPositive) (le-numbers _ scale scale-least .1) (λ t. lt→not-le scale minPositive t scale-least)
     where
       go : (m n l : Bool) → T (not m) → (T l → ⊥) → cond m minPositive (cond n scale (cond l minPositive scale)) ≡ scale
       go true n l h f = absurd h
@@ -129,7 +117,7 @@ module _ {x y : Float} (mx : Moderate x) (my : Moderate y) where
   pub not-parallel : {angular : Float} → Moderate angular → (length : Float) → T (angular ⊗ top <? length) → (length ≤? angular ⊗ maxOf scale minPositive) ≡ false
   not-parallel {angular} ma length l =
       let p = positive-of angular ma in
-      let below = mul-mono binary64 angular angular scale top p p positive-scale positive-top (le-self angular (number angular p)) scale-most in
+      let below = mul-mono binary64 angular angular scale top p p positive-scale positive-top (le-self angular (le-numbers _ angular (ma .least) .1)) scale-most in
       let less : T (angular ⊗ scale <? length) = le-lt-through (angular ⊗ scale) (angular ⊗ top) length below l in
       subst (λ (z : Float). (length ≤? angular ⊗ z) ≡ false) (sym greater)
       (no (length ≤? angular ⊗ scale) (lt→not-le (angular ⊗ scale) length less))

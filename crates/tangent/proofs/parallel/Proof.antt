@@ -1,14 +1,10 @@
 -- The quick test, or the roots.
 use borrow.Author.Needs.{needs}
-use mathlib.Core.Path.{_≡_, sym, subst}
-use mathlib.Core.Bool.{Bool, true}
-use lib.Dec.{T}
+use mathlib.Core.Path.{sym}
+use denote.Floats.{passes}
 use Rattle.tangent.proofs.Roots.{Moderate, not-parallel}
 use Rattle.tangent.proofs.parallel.Statement.{statement}
 use Rattle.tangent.proofs.parallel.Tie as tie
-
-holds : {b : Bool} → b ≡ true → T b
-holds e = subst T (sym e) tt
 
 moderate-requires : tie.Need-moderate-requires
 moderate-requires c κs = search needs
@@ -29,10 +25,10 @@ returns c =
     let a = first .moderate .ensures (second .before .if1 .taken) in
     let b = second .moderate2 .ensures (third .before .if2 .taken) in
     let e = third .moderate3 .ensures (c .before .if3 .taken) in
-    let ma : Moderate (g .a) = record { fit = holds (s .good .0 .1); least = a .0; most = a .1 } in
-    let mb : Moderate (g .b) = record { fit = holds (s .good .1 .0 .1); least = b .0; most = b .1 } in
-    let me : Moderate (g .angular) = record { fit = holds (s .good .1 .1 .1 .0 .1); least = e .0; most = e .1 } in
-    sym (not-parallel ma mb me (g .length) (holds (c .if4 .taken)))
+    let ma : Moderate (g .a) = record { fit = passes _ (s .good .0 .1); least = a .0; most = a .1 } in
+    let mb : Moderate (g .b) = record { fit = passes _ (s .good .1 .0 .1); least = b .0; most = b .1 } in
+    let me : Moderate (g .angular) = record { fit = passes _ (s .good .1 .1 .1 .0 .1); least = e .0; most = e .1 } in
+    sym (not-parallel ma mb me (g .length) (passes _ (c .if4 .taken)))
 
 sqrt-requires : tie.Need-sqrt-requires
 sqrt-requires c κs = search needs

@@ -1,5 +1,6 @@
 -- The loop's invariant: the halvings left give what all of them give.
-use mathlib.Core.Path.{_≡_, refl, sym}
+use mathlib.Core.Path.{_≡_, refl}
+use mathlib.Core.Bool.{false}
 use mathlib.Core.List.{[], _∷_}
 use mathlib.Core.Logic.{inl, inr}
 use Prim.Native.Nat.{_-_, _≤_}
@@ -9,8 +10,8 @@ use lib.Ieee.{Float}
 use native.Mathlib.Omega.{arith}
 use types.Run.{OneOf}
 use Rattle.loops.specs.Loop.{out}
-use Rattle.loops.proofs.Choice.{pick-left}
 use Rattle.loops.proofs.Loop.{searched-again, searched-leave, searched-done}
+use Rattle.number.specs.Operators.{_≤?_}
 use Rattle.step.specs.declared.attempt.Stride.{Stride}
 use Rattle.step.specs.declared.attempt.Stride.the-variants.{Inner, Edge, Nothing}
 use Rattle.step.specs.Shorten.{afterAttempt, halvings, mostHalvings, strideOf}
@@ -50,7 +51,9 @@ returns c =
 returns-2 : tie.Need-returns-2 Inv-loop μ-loop
 returns-2 c =
     let l = c .before .before in
-    searched-leave _ _ _ mostHalvings (l .loop-test .taken) (sym (pick-left _ (c .if1 .left) refl)) (l .before .loop .inv .0)
+    let p = l .before in
+    let below : (p .before .args .tol .confusion ≤? p .loop .h) ≡ false = c .if1 .left in
+    searched-leave _ _ _ mostHalvings (l .loop-test .taken) (rw below) (p .loop .inv .0)
 
 add-counter : tie.Need-add-counter Inv-loop μ-loop
 add-counter c = omega (arith, c .before .before .before .before .before .loop-test .taken)
