@@ -1,5 +1,8 @@
 -- Each way out has its tests; n, o, g are the places of the window's, the point's and the gap's.
 use borrow.Author.Tests.{not-false, not-true}
+use mathlib.Core.Path.{_≡_}
+use Rattle.patch.specs.Patch.{insideOf}
+use Rattle.certificate.specs.Passes.{parametersIn}
 use Rattle.certificate.specs.Check.{pointVerdict}
 use borrow.Author.Needs.{needs}
 use Rattle.certificate.proofs.check.point_verdict.Statement.{statement}
@@ -12,7 +15,9 @@ returns : tie.Need-returns
 unfolding pointVerdict
 returns c =
     let n = c .before in
-    rw (← n .inside .ensures, not-true (n .inside .result) (c .if1 .taken))
+    let g = n .before .args in
+    let inside : n .inside .result ≡ insideOf (g .a) (g .b) (parametersIn (g .row)) = n .inside .ensures in
+    rw (← inside, not-true (n .inside .result) (c .if1 .taken))
 
 eval-point-requires : tie.Need-eval-point-requires
 eval-point-requires c κs = search needs
