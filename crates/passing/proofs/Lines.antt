@@ -17,7 +17,7 @@ use Rattle.meeting.specs.Intersection.{IsIntersection}
 use Rattle.certificate.specs.Passes.{closingChord}
 use Rattle.walk.specs.Half.{halfOf}
 use Rattle.walk.specs.Line.{Line, forward, backward, lineOf}
-use Rattle.passing.proofs.Chains.{All, all-append, all-turned, Linked, linked-at, linked-join, linked-turned}
+use Rattle.passing.proofs.Chains.{All, all-append, all-reversed, Linked, linked-at, linked-join, linked-reversed}
 use Rattle.passing.proofs.Halves.{Near, near-swap, Ends, left-open, came-round, HalfFine, half-fine}
 
 -- a closing is so when, on the line's parameters
@@ -91,13 +91,13 @@ module _ (a b : Patch) (confusion : Float) (x : Parameters) (gx : IsIntersection
   abbrev Made : Line → Type 0
   Made m = LineFine a b confusion x n (m .points) (m .start) (m .closing)
 
-  turned : (l : List Parameters) → All (IsIntersection a b confusion) l → All (IsIntersection a b confusion) (reverse l)
-  turned l g = all-turned (IsIntersection a b confusion) l [] g tt
+  reversed-good : (l : List Parameters) → All (IsIntersection a b confusion) l → All (IsIntersection a b confusion) (reverse l)
+  reversed-good l g = all-reversed (IsIntersection a b confusion) l [] g tt
 
   closed-made : (kept : List Parameters) → length (x ∷ kept) ≤ n → All (IsIntersection a b confusion) (x ∷ kept) → Linked (Near a) (kept ++ (x ∷ [])) → LineFine a b confusion x n (x ∷ reverse (x ∷ kept)) 0 1
   closed-made kept h g l =
       subst (λ (r : List Parameters). LineFine a b confusion x n (x ∷ r) 0 1) (sym (reverse-cons x kept))
-      (round-line (reverse kept) (let e = length-reverse kept in omega (arith, e, h)) (turned kept (g .1)) (linked-turned (Near a) (near-swap a) x kept l))
+      (round-line (reverse kept) (let e = length-reverse kept in omega (arith, e, h)) (reversed-good kept (g .1)) (linked-reversed (Near a) (near-swap a) x kept l))
 
   back-made : (kept r : List Parameters) → length (x ∷ kept) ≤ n → length r ≤ n → 2 ≤ length kept → All (IsIntersection a b confusion) (x ∷ kept) → All (IsIntersection a b confusion) r
       → Linked (Near a) (kept ++ (x ∷ [])) → Linked (Near a) (x ∷ r) → LineFine a b confusion x n ((x ∷ kept) ++ (x ∷ r)) (length (x ∷ kept)) 2
@@ -107,12 +107,12 @@ module _ (a b : Patch) (confusion : Float) (x : Parameters) (gx : IsIntersection
       → LineFine a b confusion x n (bp ++ (x ∷ reverse fp)) (length bp) (pick bc 2 0)
   both-made fp bp bc h g l k q (left-open e p) =
       subst (λ (c : Bool). LineFine a b confusion x n (bp ++ (x ∷ reverse fp)) (length bp) (pick c 2 0)) (sym e)
-      (open-line bp (reverse fp) k (let f = length-reverse fp in omega (arith, f, h)) q (turned fp g) p (linked-turned (Near a) (near-swap a) x fp l))
+      (open-line bp (reverse fp) k (let f = length-reverse fp in omega (arith, f, h)) q (reversed-good fp g) p (linked-reversed (Near a) (near-swap a) x fp l))
   both-made fp bp bc h g l k q (came-round e kept d m p) =
       subst (λ (c : Bool). LineFine a b confusion x n (bp ++ (x ∷ reverse fp)) (length bp) (pick c 2 0)) (sym e)
       (subst (λ (s : List Parameters). LineFine a b confusion x n (s ++ (x ∷ reverse fp)) (length s) 2) (sym d)
       (back-made kept (reverse fp) (subst (λ (s : List Parameters). length s ≤ n) d k) (let f = length-reverse fp in omega (arith, f, h)) m
-      (subst (All (IsIntersection a b confusion)) d q) (turned fp g) p (linked-turned (Near a) (near-swap a) x fp l)))
+      (subst (All (IsIntersection a b confusion)) d q) (reversed-good fp g) p (linked-reversed (Near a) (near-swap a) x fp l)))
 
   line-made : (fp : List Parameters) (fc : Bool) (bp : List Parameters) (bc : Bool) → HalfFine a b confusion x n fp fc → HalfFine a b confusion x n bp bc → Made (made fp fc bp bc)
   line-made fp fc bp bc f r = go (f .ends)
