@@ -10,7 +10,7 @@ use Rattle.analytic.specs.Surface.{evalPoint}
 use Rattle.fdlibm.proofs.Examples as fdlibm
 use Rattle.solve.proofs.Computing as solve
 use Rattle.boxes.proofs.Computing as boxes
-use Rattle.marching.specs.Leaving.{leavingOf, runStart, considerOf, lesserOf}
+use Rattle.marching.specs.Leaving.{leavingOf, firstExit, considerOf, lesserOf}
 use Rattle.marching.specs.Tangent.{normalOf, unitCross, tangentOf}
 use Rattle.meeting.proofs.Evaluated as meeting
 use Rattle.number.specs.Helpers.{numberFit}
@@ -22,7 +22,7 @@ use Rattle.walk.specs.Trace.{guessFinite, capFits, callFitness, walkOf, traceOf
 use Rattle.examples.specs.Table.{Table}
 
 pub table : Table
-unfolding evalPoint planeD0 cylinderD0 pointAtOf addVectorOf scaleOf pointOf vectorOf zeroVector fdlibm.computing solve.computing boxes.computing leavingOf runStart considerOf lesserOf meeting.computing normalOf unitCross tangentOf fitnessOf numbersFit sizesFit windowFit markFit uIsAngle vIsAngle frameFit vectorFit pointFit numberFit defaultTolerance toleranceFit guessFinite capFits pairFitness callFitness walkOf traceOf sqrtOf toBits ofBits
+unfolding evalPoint planeD0 cylinderD0 pointAtOf addVectorOf scaleOf pointOf vectorOf zeroVector fdlibm.computing solve.computing boxes.computing leavingOf firstExit considerOf lesserOf meeting.computing normalOf unitCross tangentOf fitnessOf numbersFit sizesFit windowFit markFit uIsAngle vIsAngle frameFit vectorFit pointFit numberFit defaultTolerance toleranceFit guessFinite capFits pairFitness callFitness walkOf traceOf sqrtOf toBits ofBits
 table =
     record {
       row1 = refl;
