@@ -18,9 +18,9 @@ module _ {A : Type 0} (G : A → Type 0) where
   all-append [] r p q = q
   all-append (y ∷ l) r p q = (p .0, all-append l r (p .1) q)
 
-  pub all-turned : (l r : List A) → All l → All r → All (reverseAux l r)
-  all-turned [] r p q = q
-  all-turned (y ∷ l) r p q = all-turned l (y ∷ r) (p .1) (p .0, q)
+  pub all-reversed : (l r : List A) → All l → All r → All (reverseAux l r)
+  all-reversed [] r p q = q
+  all-reversed (y ∷ l) r p q = all-reversed l (y ∷ r) (p .1) (p .0, q)
 
   pub all-at : (l : List A) (d : A) (i : ℕ) → i < length l → All l → G (getD l i d)
   all-at [] d i h p = absurd (let e : ⊥ = omega arith in e)
@@ -59,15 +59,15 @@ module _ {A : Type 0} (R : A → A → Type 0) where
   linked-at (y ∷ z ∷ l) d zero h p = p .0
   linked-at (y ∷ z ∷ l) d (suc i) h p = linked-at (z ∷ l) d i (omega arith) (p .1)
 
-  -- where the relation goes both ways a list turned round is linked
+  -- where the relation goes both ways the reversed list is linked
   module _ (swap : (y z : A) → R y z → R z y) where
-    turned-onto : (l r : List A) (y : A) → Linked (y ∷ l) → Linked (y ∷ r) → Linked (reverseAux l (y ∷ r))
-    turned-onto [] r y p q = q
-    turned-onto (z ∷ l) r y p q = turned-onto l (y ∷ r) z (p .1) (swap y z (p .0), q)
+    reversed-onto : (l r : List A) (y : A) → Linked (y ∷ l) → Linked (y ∷ r) → Linked (reverseAux l (y ∷ r))
+    reversed-onto [] r y p q = q
+    reversed-onto (z ∷ l) r y p q = reversed-onto l (y ∷ r) z (p .1) (swap y z (p .0), q)
 
     all-round : (l : List A) → Linked l → Linked (reverse l)
     all-round [] p = tt
-    all-round (y ∷ l) p = turned-onto l [] y p tt
+    all-round (y ∷ l) p = reversed-onto l [] y p tt
 
-    pub linked-turned : (x : A) (l : List A) → Linked (l ++ (x ∷ [])) → Linked (x ∷ reverse l)
-    linked-turned x l p = subst Linked (reverse-append l (x ∷ [])) (all-round (l ++ (x ∷ [])) p)
+    pub linked-reversed : (x : A) (l : List A) → Linked (l ++ (x ∷ [])) → Linked (x ∷ reverse l)
+    linked-reversed x l p = subst Linked (reverse-append l (x ∷ [])) (all-round (l ++ (x ∷ [])) p)

@@ -46,7 +46,7 @@ pub record HalfFine (a b : Patch) (confusion : Float) (x : Parameters) (n : ℕ)
   pub ends : Ends a x points closed
 
 module _ (a b : Patch) (tol : Tolerance) (fit : T (toleranceFit tol)) (dir : Float) (x : Parameters) (gx : IsIntersection a b (tol .confusion) x) (n : ℕ) where
-  -- before turn i: the walker stands on the last point
+  -- before iteration i: the walker stands on the last point
   record Sofar (i : ℕ) (s : Halfway) : Type 0 where
     few : length (s .points) ≤ i
     good : All (IsIntersection a b (tol .confusion)) (s .points)

@@ -50,7 +50,7 @@ module _ (f b : ℕ) (l : List Float) (h : width * (1 + f + b) ≤ length l) whe
   unfolding S B
   used = ap (λ (k : ℕ). take k l) (let e : width * (1 + f + b) ≡ width * (1 + f) + width * b = omega arith in e) ∙ take-add (width * (1 + f)) (width * b) l
 
-  -- the whole turned round
+  -- the whole reversed
   first : reversedOf (1 + f + b) (take (width * (1 + f + b)) l) ≡ TB ++ TS
   unfolding TB TS
   first = ap (reversedOf (1 + f + b)) used ∙ reversed-append (1 + f) b S B lS
@@ -78,7 +78,9 @@ module _ (f b : ℕ) (l : List Float) (h : width * (1 + f + b) ≤ length l) whe
   unfolding l₁ joinedOf S B R TB TS
   joined {p} {q} ep eq =
       ap (λ (z : List Float). backAt (width * b) (width * (1 + f + b)) (z ++ drop (width * (1 + f + b)) l) q) ep
-      ∙ ap (backAt (width * b) (width * (1 + f + b)) l₁) (eq ∙ ap (λ (z : List Float). reversedOf (1 + f) (take (width * (1 + f + b) - width * b) (drop (width * b) (z ++ drop (width * (1 + f + b)) l)))) ep ∙ ap (reversedOf (1 + f)) middle-is ∙ reversed-twice (1 + f) S lS)
+      ∙ ap (backAt (width * b) (width * (1 + f + b)) l₁)
+      (eq ∙ ap (λ (z : List Float). reversedOf (1 + f) (take (width * (1 + f + b) - width * b) (drop (width * b) (z ++ drop (width * (1 + f + b)) l)))) ep
+      ∙ ap (reversedOf (1 + f)) middle-is ∙ reversed-twice (1 + f) S lS)
       ∙ ap (λ (z : List Float). z ++ (S ++ drop (width * (1 + f + b) - width * b) (drop (width * b) l₁))) (ap (take (width * b)) l₁-is ∙ take-at TB (TS ++ R) (width * b) lTB)
       ∙ ap (λ (z : List Float). TB ++ (S ++ z)) (ap (λ (k : ℕ). drop k (drop (width * b) l₁)) span ∙ ap (drop (width * (1 + f))) behind-is ∙ drop-at TS R (width * (1 + f)) lTS)
 

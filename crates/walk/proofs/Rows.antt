@@ -32,7 +32,7 @@ module _ (row : Parameters → Row) where
   unfolding rowsOf
   rows-last y ys = ap (rowsOf row) (reverse-cons y ys) ∙ rows-append (reverse ys) (y ∷ [])
 
-  -- turned round they are the points last first
+  -- reversed they are the points last first
   pub reversed-rows : (xs : List Parameters) → reversedOf (length xs) (rowsOf row xs) ≡ rowsOf row (reverse xs)
   unfolding rowsOf reversedOf
   reversed-rows [] = refl

@@ -51,7 +51,7 @@ afterStep x points (Closed removed) = out (record { points = x ∷ pick removed 
 afterStep x points (Edge y q) = out (record { points = y ∷ points; closed = false })
 afterStep x points Ended = out (record { points = points; closed = false })
 
--- one turn of the loop over the steps
+-- one iteration of the loop over the steps
 abbrev pub halfBody : Patch → Patch → Tolerance → Float → Parameters → ℕ → Halfway → Flow Halfway Half
 halfBody a b tol dir x i s = afterStep x (s .points) (stepOf a b tol dir (pointA a x) (length (s .points)) (s .w) (s .h))
 

@@ -1,4 +1,4 @@
--- The lent buffer: points put down and turned round. Definitions only.
+-- The lent buffer: points put down and reversed. Definitions only.
 use mathlib.Core.List.{List, [], _∷_, _++_}
 use Prim.Native.Nat.{ℕ, zero, suc, _+_, _*_}
 use lib.Ieee.{Float}
@@ -31,7 +31,7 @@ unfoldable pub reversedOf : ℕ → List Float → List Float
 reversedOf zero l = []
 reversedOf (suc k) l = reversedOf k (drop width l) ++ take width l
 
--- the start and f points behind it, then b points: those turned round come first ("the backward half turned round in it")
+-- the start and f points behind it, then b points: those reversed come first ("the backward half turned round in it")
 unfoldable pub joinedOf : ℕ → ℕ → List Float → List Float
 joinedOf f b l = reversedOf b (take (width * b) (drop (width * (1 + f)) l)) ++ (take (width * (1 + f)) l ++ drop (width * (1 + f + b)) l)
 

@@ -1,4 +1,4 @@
-// The lent buffer: a point's numbers put down, points turned round in place, zeros.
+// The lent buffer: a point's numbers put down, points reversed in place, zeros.
 use geometry::Point3D;
 use groups::Row;
 use groups::row::row_of;
@@ -56,7 +56,7 @@ pub(crate) fn row_for(q: Point3D, x: Parameters) -> Row
     }
 }
 
-// The k points of the slice turned round in place.
+// The k points of the slice, last first, in place.
 pub(crate) fn reverse(points: &mut [f64], k: usize)
     requires { ⌜ (length (now points) ≡ width * k) × (k ≤ mostPoints) ⌝ }
     ensures { λ _. ⌜ now (points .exit) ≡ reversedOf k (now (points .entry)) ⌝ }

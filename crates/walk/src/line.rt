@@ -1,4 +1,4 @@
-// Both halves in the lent buffer: the start, the forward half behind it, the backward half behind that; then the points are turned round,
+// Both halves in the lent buffer: the start, the forward half behind it, the backward half behind that; then the points are reversed,
 // so that the line reads from the backward half's end to the forward half's.
 use crate::answer::Traced;
 use crate::half::half;
@@ -24,7 +24,7 @@ ghost use Rattle.walk.specs.Lent.{joinedOf, ownRow};
 ghost use Rattle.walk.specs.Line.{lineOf};
 ghost use Rattle.walk.specs.Trace.{outcome, mostSteps, room, finishedOf, settled};
 
-// The start and `forward` points behind it, then `backward` points: those turned round come first.
+// The start and `forward` points behind it, then `backward` points: those reversed come first.
 fn join(points: &mut [f64], forward: usize, backward: usize)
     requires { ⌜ (width * (1 + forward + backward) ≤ length (now points)) × ((forward ≤ mostSteps) × (backward ≤ mostSteps)) ⌝ }
     ensures { λ _. ⌜ now (points .exit) ≡ joinedOf forward backward (now (points .entry)) ⌝ }

@@ -1,11 +1,20 @@
-use Prim.Native.Nat.{_≤_}
-use mathlib.Core.Path.{sym, _∙_}
+use mathlib.Core.Path.{_≡_, sym, _∙_}
 use borrow.Author.Needs.{needs}
 use borrow.Author.Tests.{not-true, not-false}
-use Rattle.walk.specs.Trace.{mostSteps, callFitness}
+use Rattle.refusal.specs.declared.Verdict.the-variants.{Passed}
+use Rattle.patch.specs.Pair.{pairFitness}
+use Rattle.walk.specs.Trace.{callFitness}
 use Rattle.walk.proofs.Calls.{cap-least}
 use Rattle.walk.proofs.trace.call_fitness.Statement.{statement}
 use Rattle.walk.proofs.trace.call_fitness.Tie as tie
+
+-- where both surfaces and the tolerance pass
+module _ (c : tie.After-enum-told) where
+  abbrev start : tie.Start
+  start = c .before .before .before .before
+
+  passed : pairFitness (start .args .a) (start .args .b) (start .args .tol) ≡ Passed
+  passed = sym (c .before .before .pair-fitness .ensures) ∙ c .enum-told .given .1
 
 pair-fitness-requires : tie.Need-pair-fitness-requires
 pair-fitness-requires c κs = search needs
@@ -28,7 +37,7 @@ unfolding callFitness
 returns-2 c =
     let g = c .before in
     let t = g .before in
-    rw (← t .before .before .pair-fitness .ensures, t .enum-told .given .1, ← g .guess-finite .ensures, not-true (g .guess-finite .result) (c .if1 .taken))
+    rw (passed t, ← g .guess-finite .ensures, not-true (g .guess-finite .result) (c .if1 .taken))
 
 cap-fits-requires : tie.Need-cap-fits-requires
 cap-fits-requires c κs = search needs
@@ -39,7 +48,8 @@ returns-3 c =
     let k = c .before in
     let g = k .before .before in
     let t = g .before in
-    rw (← t .before .before .pair-fitness .ensures, t .enum-told .given .1, ← g .guess-finite .ensures, not-false (g .guess-finite .result) (k .before .if1 .left), ← k .cap-fits .ensures, not-true (k .cap-fits .result) (c .if2 .taken))
+    let finite = not-false (g .guess-finite .result) (k .before .if1 .left) in
+    rw (passed t, ← g .guess-finite .ensures, finite, ← k .cap-fits .ensures, not-true (k .cap-fits .result) (c .if2 .taken))
 
 mul-holds : tie.Need-mul-holds
 mul-holds c =
@@ -61,7 +71,9 @@ returns-4 c =
     let k = h .before .before in
     let g = k .before .before in
     let t = g .before in
-    rw (← t .before .before .pair-fitness .ensures, t .enum-told .given .1, ← g .guess-finite .ensures, not-false (g .guess-finite .result) (k .before .if1 .left), ← k .cap-fits .ensures, not-false (k .cap-fits .result) (h .before .if2 .left), ← h .holds .ensures, not-true (h .holds .result) (c .if3 .taken))
+    let finite = not-false (g .guess-finite .result) (k .before .if1 .left) in
+    let fits = not-false (k .cap-fits .result) (h .before .if2 .left) in
+    rw (passed t, ← g .guess-finite .ensures, finite, ← k .cap-fits .ensures, fits, ← h .holds .ensures, not-true (h .holds .result) (c .if3 .taken))
 
 returns-5 : tie.Need-returns-5
 unfolding callFitness
@@ -70,7 +82,9 @@ returns-5 c =
     let k = h .before .before in
     let g = k .before .before in
     let t = g .before in
-    rw (← t .before .before .pair-fitness .ensures, t .enum-told .given .1, ← g .guess-finite .ensures, not-false (g .guess-finite .result) (k .before .if1 .left), ← k .cap-fits .ensures, not-false (k .cap-fits .result) (h .before .if2 .left), ← h .holds .ensures, not-false (h .holds .result) (c .if3 .left))
+    let finite = not-false (g .guess-finite .result) (k .before .if1 .left) in
+    let fits = not-false (k .cap-fits .result) (h .before .if2 .left) in
+    rw (passed t, ← g .guess-finite .ensures, finite, ← k .cap-fits .ensures, fits, ← h .holds .ensures, not-false (h .holds .result) (c .if3 .left))
 
 pub call-fitness-spec : {M : Type 1} → statement M
 call-fitness-spec =
