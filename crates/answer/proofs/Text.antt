@@ -82,13 +82,13 @@ module _ (t l m : List ℕ) (r : ℕ) (w : (r ≡ length t) × (m ≡ written t 
   line-count = sym (length-take-le r m line-holds)
 
 -- the first text, and a text behind what is written already
-pub text-first : (s : List ℕ) {l l′ : List ℕ} {r : ℕ} → r ≡ 0 + length s → l′ ≡ laid l 0 s → (r ≡ length s) × (l′ ≡ written s l)
+pub text-first : (s l l′ : List ℕ) (r : ℕ) → r ≡ 0 + length s → l′ ≡ laid l 0 s → (r ≡ length s) × (l′ ≡ written s l)
 unfolding laid written
-text-first s e f = (rw zero-add at e, rw zero-add at f)
+text-first s l l′ r e f = (rw zero-add at e, rw zero-add at f)
 
-pub text-next : {t : List ℕ} (s : List ℕ) {l₀ l l′ : List ℕ} {at r : ℕ} → (at ≡ length t) × (l ≡ written t l₀) → r ≡ at + length s → l′ ≡ laid l at s
+pub text-next : (t s l₀ l l′ : List ℕ) (at r : ℕ) → (at ≡ length t) × (l ≡ written t l₀) → r ≡ at + length s → l′ ≡ laid l at s
     → (r ≡ length (t ++ s)) × (l′ ≡ written (t ++ s) l₀)
-text-next s w e f = (rw (e, w .0, length-append), rw (f, w .0, w .1, more))
+text-next t s l₀ l l′ at r w e f = (rw (e, w .0, length-append), rw (f, w .0, w .1, more))
 
 -- the digits that stand from k on in twenty bytes, laid into the line
 pub number-laid : (l d m m′ : List ℕ) (k at r : ℕ) → length l ≡ 20 → drop k l ≡ d

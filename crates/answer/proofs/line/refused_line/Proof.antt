@@ -1,4 +1,5 @@
 use borrow.Author.Needs.{needs}
+use mathlib.Core.List.{_++_}
 use Rattle.answer.specs.Line.{decimalOf, refusedWord, newline}
 use Rattle.answer.proofs.Text.{text-first, text-next, refused-line-is}
 use Rattle.answer.proofs.line.refused_line.Statement.{statement}
@@ -24,9 +25,9 @@ returns c =
     let n = c .before .before .before .before .before .before .before .before .args .number in
     let c2 = c .before .before .before in
     let c1 = c2 .before .before in
-    let t1 = text-first refusedWord (c1 .append .ensures .0) (c1 .append .ensures .1) in
-    let t2 = text-next (decimalOf n) t1 (c2 .append-number .ensures .0) (c2 .append-number .ensures .1) in
-    let t3 = text-next newline t2 (c .append2 .ensures .0) (c .append2 .ensures .1) in
+    let t1 = text-first refusedWord _ _ _ (c1 .append .ensures .0) (c1 .append .ensures .1) in
+    let t2 = text-next refusedWord (decimalOf n) _ _ _ _ _ t1 (c2 .append-number .ensures .0) (c2 .append-number .ensures .1) in
+    let t3 = text-next (refusedWord ++ decimalOf n) newline _ _ _ _ _ t2 (c .append2 .ensures .0) (c .append2 .ensures .1) in
     rw (← refused-line-is n) t3
 
 pub refused-line-spec : {M : Type 1} → statement M
