@@ -1,4 +1,6 @@
 use borrow.Author.Tests.{eq-eqb, ne-eqb}
+use mathlib.Core.Path.{_≡_}
+use Rattle.certificate.specs.Passes.{closingChord}
 use Rattle.certificate.specs.Check.{chordFits}
 use borrow.Author.Needs.{needs}
 use Rattle.certificate.proofs.check.chord_fits.Statement.{statement}
@@ -13,7 +15,11 @@ closing-chord-requires c κs = search needs
 
 returns-2 : tie.Need-returns-2
 unfolding chordFits
-returns-2 c = rw (ne-eqb _ _ (c .before .before .if1 .left), ← c .before .closing-chord .ensures, c .if2 .taken)
+returns-2 c =
+    let k = c .before in
+    let g = k .before .before .args in
+    let closing : k .closing-chord .result ≡ closingChord (g .count) (g .closing) (g .i) = k .closing-chord .ensures in
+    rw (ne-eqb _ _ (k .before .if1 .left), ← closing, c .if2 .taken)
 
 point-requires : tie.Need-point-requires
 point-requires c κs = search needs
