@@ -37,13 +37,7 @@ pub(crate) fn solve(n: usize, input: &[f64], output: &mut [f64]) -> u64 {
 }
 
 /// The answer word of `what`: 0 the point, 1 both first derivatives.
-fn surface(
-    what: u64,
-    kind: u64,
-    numbers: &[f64],
-    [u, v]: [f64; 2],
-    output: &mut [f64],
-) -> u64 {
+fn surface(what: u64, kind: u64, numbers: &[f64], [u, v]: [f64; 2], output: &mut [f64]) -> u64 {
     let (s, count) = (numbers.as_ptr(), numbers.len());
     let (t, outputs) = (output.as_mut_ptr(), output.len());
     // SAFETY: as in `solve`.

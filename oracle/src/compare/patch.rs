@@ -128,7 +128,12 @@ fn bytes(c: &Case, clear: bool) -> Vec<u8> {
         numbers[12 + Side::sizes(kind)..14].fill(0.0);
     }
     let mut out = Vec::new();
-    Side { kind, marks, numbers }.write(&mut out);
+    Side {
+        kind,
+        marks,
+        numbers,
+    }
+    .write(&mut out);
     out
 }
 
