@@ -48,8 +48,8 @@ evalPoint s u v = pointAtOf (frameOf s) (localOf s u v .x) (localOf s u v .y) (l
 -- ---- first derivatives: `*_derivative` at (1, 0), then at (0, 1)
 
 -- a number times one direction and another times a second, added
-unfoldable pub alongOf : Float → Vector3D → Float → Vector3D → Vector3D
-alongOf a p b q = addOf (timesOf a p) (timesOf b q)
+unfoldable pub combinationOf : Float → Vector3D → Float → Vector3D → Vector3D
+combinationOf a p b q = addOf (timesOf a p) (timesOf b q)
 
 -- the two together
 abbrev derivatives : Vector3D → Vector3D → Derivatives
@@ -62,16 +62,16 @@ derivatives u v = record { u = u; v = v }
 -- torus: r * (-su * x + cu * y), and -min * sv * (cu * x + su * y) + min * cv * z
 unfoldable pub evalD1 : Surface → Float → Float → Derivatives
 evalD1 (Plane f) u v = derivatives (f .x) (f .y)
-evalD1 (Cylinder f r) u v = derivatives (alongOf (neg (r ⊗ sinOf u)) (f .x) (r ⊗ cosOf u) (f .y)) (f .z)
+evalD1 (Cylinder f r) u v = derivatives (combinationOf (neg (r ⊗ sinOf u)) (f .x) (r ⊗ cosOf u) (f .y)) (f .z)
 evalD1 (Cone f r a) u v =
     derivatives
-    (alongOf (neg (coneRadius r a v) ⊗ sinOf u) (f .x) (coneRadius r a v ⊗ cosOf u) (f .y))
-    (alongOf (sinOf a) (alongOf (cosOf u) (f .x) (sinOf u) (f .y)) (cosOf a) (f .z))
+    (combinationOf (neg (coneRadius r a v) ⊗ sinOf u) (f .x) (coneRadius r a v ⊗ cosOf u) (f .y))
+    (combinationOf (sinOf a) (combinationOf (cosOf u) (f .x) (sinOf u) (f .y)) (cosOf a) (f .z))
 evalD1 (Sphere f r) u v =
     derivatives
-    (timesOf (r ⊗ cosOf v) (alongOf (neg (sinOf u)) (f .x) (cosOf u) (f .y)))
-    (alongOf (neg r ⊗ sinOf v) (alongOf (cosOf u) (f .x) (sinOf u) (f .y)) (r ⊗ cosOf v) (f .z))
+    (timesOf (r ⊗ cosOf v) (combinationOf (neg (sinOf u)) (f .x) (cosOf u) (f .y)))
+    (combinationOf (neg r ⊗ sinOf v) (combinationOf (cosOf u) (f .x) (sinOf u) (f .y)) (r ⊗ cosOf v) (f .z))
 evalD1 (Torus f maj min) u v =
     derivatives
-    (timesOf (torusRadius maj min v) (alongOf (neg (sinOf u)) (f .x) (cosOf u) (f .y)))
-    (alongOf (neg min ⊗ sinOf v) (alongOf (cosOf u) (f .x) (sinOf u) (f .y)) (min ⊗ cosOf v) (f .z))
+    (timesOf (torusRadius maj min v) (combinationOf (neg (sinOf u)) (f .x) (cosOf u) (f .y)))
+    (combinationOf (neg min ⊗ sinOf v) (combinationOf (cosOf u) (f .x) (sinOf u) (f .y)) (min ⊗ cosOf v) (f .z))

@@ -5,7 +5,7 @@ use geometry::Point3D;
 use geometry::Vector3D;
 ghost use mathlib.Core.Path.{_≡_};
 ghost use Rattle.analytic.specs.declared.surface.Surface.the-variants.{Plane, Cylinder, Cone, Sphere, Torus};
-ghost use Rattle.analytic.specs.Surface.{evalPoint, alongOf, evalD1};
+ghost use Rattle.analytic.specs.Surface.{evalPoint, combinationOf, evalD1};
 
 // The derivatives by u and by v.
 pub struct Derivatives {
@@ -14,8 +14,8 @@ pub struct Derivatives {
 }
 
 // a * p + b * q.
-fn along(a: f64, p: Vector3D, b: f64, q: Vector3D) -> Vector3D
-    ensures { λ r. ⌜ r ≡ alongOf a p b q ⌝ }
+fn combination(a: f64, p: Vector3D, b: f64, q: Vector3D) -> Vector3D
+    ensures { λ r. ⌜ r ≡ combinationOf a p b q ⌝ }
 {
     p.scale(a).add(q.scale(b))
 }
@@ -46,7 +46,7 @@ pub(crate) fn cylinder_derivatives(frame: Frame3D, r: f64, u: f64, v: f64) -> De
     let a2 = r * su;
     let z = frame.z;
     Derivatives {
-        u: along(-a2, frame.x, a1, frame.y),
+        u: combination(-a2, frame.x, a1, frame.y),
         v: z,
     }
 }
@@ -77,8 +77,8 @@ pub(crate) fn cone_derivatives(
     let su = fdlibm::sin_cos(u, &mut cu);
     let r = ref_r + v * sa;
     Derivatives {
-        u: along(-r * su, frame.x, r * cu, frame.y),
-        v: along(sa, along(cu, frame.x, su, frame.y), ca, frame.z),
+        u: combination(-r * su, frame.x, r * cu, frame.y),
+        v: combination(sa, combination(cu, frame.x, su, frame.y), ca, frame.z),
     }
 }
 
@@ -102,8 +102,8 @@ pub(crate) fn sphere_derivatives(frame: Frame3D, r: f64, u: f64, v: f64) -> Deri
     let su = fdlibm::sin_cos(u, &mut cu);
     let rcv = r * cv;
     Derivatives {
-        u: along(-su, frame.x, cu, frame.y).scale(rcv),
-        v: along(-r * sv, along(cu, frame.x, su, frame.y), rcv, frame.z),
+        u: combination(-su, frame.x, cu, frame.y).scale(rcv),
+        v: combination(-r * sv, combination(cu, frame.x, su, frame.y), rcv, frame.z),
     }
 }
 
@@ -127,10 +127,10 @@ pub(crate) fn torus_derivatives(frame: Frame3D, maj: f64, min: f64, u: f64, v: f
     let su = fdlibm::sin_cos(u, &mut cu);
     let r = maj + min * cv;
     Derivatives {
-        u: along(-su, frame.x, cu, frame.y).scale(r),
-        v: along(
+        u: combination(-su, frame.x, cu, frame.y).scale(r),
+        v: combination(
             -min * sv,
-            along(cu, frame.x, su, frame.y),
+            combination(cu, frame.x, su, frame.y),
             min * cv,
             frame.z,
         ),

@@ -16,11 +16,11 @@ abbrev pub over : {A : Type 0} → List A → ℕ → List A → List A
 over l at vs = take at l ++ vs ++ drop (at + length vs) l
 
 -- the first numbers of a point, and those behind them
-abbrev pub coordinatesOf : Row → List Float
-coordinatesOf r = r .x ∷ r .y ∷ r .z ∷ []
+abbrev pub coordinateNumbers : Row → List Float
+coordinateNumbers r = r .x ∷ r .y ∷ r .z ∷ []
 
-abbrev pub parametersOf : Row → List Float
-parametersOf r = r .u1 ∷ r .v1 ∷ r .u2 ∷ r .v2 ∷ []
+abbrev pub parameterNumbers : Row → List Float
+parameterNumbers r = r .u1 ∷ r .v1 ∷ r .u2 ∷ r .v2 ∷ []
 
 -- a list with the numbers of a point from index `at` on
 abbrev pub placed : List Float → ℕ → Row → List Float

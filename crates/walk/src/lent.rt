@@ -9,12 +9,12 @@ ghost use Prim.Native.Nat.{_+_, _*_, _-_, _≤_};
 ghost use lib.ListN.{length, take, replicate};
 ghost use Rattle.groups.specs.Groups.{width, mostPoints};
 ghost use Rattle.number.specs.Helpers.{positiveZero};
-ghost use Rattle.walk.specs.Lent.{over, coordinatesOf, parametersOf, placed, reversedOf, rowFor};
+ghost use Rattle.walk.specs.Lent.{over, coordinateNumbers, parameterNumbers, placed, reversedOf, rowFor};
 
 // A point's coordinates, from index `at` on.
 fn put_coordinates(out: &mut [f64], at: usize, row: Row)
     requires { ⌜ at + 3 ≤ length (now out) ⌝ }
-    ensures { λ _. ⌜ now (out .exit) ≡ over (now (out .entry)) at (coordinatesOf row) ⌝ }
+    ensures { λ _. ⌜ now (out .exit) ≡ over (now (out .entry)) at (coordinateNumbers row) ⌝ }
 {
     out[at] = row.x;
     out[at + 1] = row.y;
@@ -24,7 +24,7 @@ fn put_coordinates(out: &mut [f64], at: usize, row: Row)
 // Its parameters, from index `at` on.
 fn put_parameters(out: &mut [f64], at: usize, row: Row)
     requires { ⌜ at + 4 ≤ length (now out) ⌝ }
-    ensures { λ _. ⌜ now (out .exit) ≡ over (now (out .entry)) at (parametersOf row) ⌝ }
+    ensures { λ _. ⌜ now (out .exit) ≡ over (now (out .entry)) at (parameterNumbers row) ⌝ }
 {
     out[at] = row.u1;
     out[at + 1] = row.v1;

@@ -27,13 +27,4 @@ unfolding answerOf lentNumbers
 returns-2 c = rw (← c .before .before .before .before .before .before .read .ensures, c .before .before .before .before .read3 .given .1) (c .before .trace .ensures .answer)
 
 pub answer-of-spec : {M : Type 1} → statement M
-answer-of-spec =
-    tie.close
-    (tie.spec
-    read-requires
-    enum-known-read
-    enum-known-read-2
-    slice-aggregate-trace
-    trace-requires
-    returns
-    returns-2)
+answer-of-spec = tie.close (tie.spec read-requires enum-known-read enum-known-read-2 slice-aggregate-trace trace-requires returns returns-2)

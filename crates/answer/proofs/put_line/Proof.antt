@@ -28,13 +28,4 @@ unfolding answerLine
 returns-2 c = rw (c .before .before .before .before .answer2 .given .1, number-not-0, ← c .before .before .number .ensures) (c .refused-line .ensures)
 
 pub put-line-spec : {M : Type 1} → statement M
-put-line-spec =
-    tie.close
-    (tie.spec
-    enum-known-answer
-    trace-line-requires
-    enum-known-answer-2
-    number-requires
-    refused-line-requires
-    returns
-    returns-2)
+put-line-spec = tie.close (tie.spec enum-known-answer trace-line-requires enum-known-answer-2 number-requires refused-line-requires returns returns-2)

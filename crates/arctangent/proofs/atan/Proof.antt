@@ -64,15 +64,5 @@ returns-5 c =
 pub atan-spec : {M : Type 1} → statement M
 atan-spec =
     tie.close
-    (tie.spec
-    high-word-requires
-    sign-bit-requires
-    atan-far-requires
-    atan-series-requires
-    abs-requires
-    atan-folded-requires
-    returns
-    returns-2
-    returns-3
-    returns-4
-    returns-5)
+    (tie.spec high-word-requires sign-bit-requires atan-far-requires atan-series-requires abs-requires atan-folded-requires returns
+    returns-2 returns-3 returns-4 returns-5)

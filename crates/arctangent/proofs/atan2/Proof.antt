@@ -41,5 +41,4 @@ returns-4 c =
     rw (c .angle .ensures, ← ne-self (a .x), ← ne-self (a .y), i1 .if1 .left, b .before .if2 .left, ← b .to-bits .ensures, ne-eqb _ _ (c .before .if3 .left))
 
 pub atan2-spec : {M : Type 1} → statement M
-atan2-spec =
-    tie.close (tie.spec returns returns-2 to-bits-requires atan-requires returns-3 angle-requires returns-4)
+atan2-spec = tie.close (tie.spec returns returns-2 to-bits-requires atan-requires returns-3 angle-requires returns-4)

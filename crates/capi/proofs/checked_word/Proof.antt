@@ -31,13 +31,4 @@ unfolding checkedWord
 returns-2 c = rw (c .before .before .before .before .answer .given .1, c .refused-word .ensures, c .before .index .ensures, c .before .before .number .ensures)
 
 pub checked-word-spec : {M : Type 1} → statement M
-checked-word-spec =
-    tie.close
-    (tie.spec
-    enum-told
-    enum-known-answer
-    number-requires
-    index-requires
-    refused-word-requires
-    returns
-    returns-2)
+checked-word-spec = tie.close (tie.spec enum-told enum-known-answer number-requires index-requires refused-word-requires returns returns-2)

@@ -36,14 +36,5 @@ returns c = c .new .ensures
 pub corner-spec : {M : Type 1} → statement M
 corner-spec =
     tie.close
-    (tie.spec
-    mul-new
-    shared-slice-read-new
-    add-new
-    mul-new-2
-    shared-slice-read-new-2
-    add-new-2
-    mul-new-3
-    shared-slice-read-new-3
-    new-requires
-    returns)
+    (tie.spec mul-new shared-slice-read-new add-new mul-new-2 shared-slice-read-new-2 add-new-2 mul-new-3 shared-slice-read-new-3
+    new-requires returns)

@@ -33,14 +33,4 @@ returns-2 c =
     checked-word _ _ _ _ _ (sym (m .before .before .read .ensures) ∙ m .read3 .given .1) (c .before .check .ensures) (c .checked-word .ensures)
 
 pub geomcore-check-spec : {M : Type 1} → statement M
-geomcore-check-spec =
-    tie.close
-    (tie.spec
-    read-requires
-    enum-known-read
-    number-requires
-    enum-known-read-2
-    check-requires
-    checked-word-requires
-    returns
-    returns-2)
+geomcore-check-spec = tie.close (tie.spec read-requires enum-known-read number-requires enum-known-read-2 check-requires checked-word-requires returns returns-2)

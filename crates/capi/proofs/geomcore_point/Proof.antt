@@ -30,14 +30,4 @@ unfolding pointAnswer
 returns-2 c = rw (← c .before .before .before .before .before .before .before .read-surface .ensures, c .before .before .before .before .before .read2 .given .1) (c .before .before .point-on .ensures)
 
 pub geomcore-point-spec : {M : Type 1} → statement M
-geomcore-point-spec =
-    tie.close
-    (tie.spec
-    read-surface-requires
-    enum-known-read
-    number-requires
-    enum-known-read-2
-    point-on-requires
-    returns
-    same-length
-    returns-2)
+geomcore-point-spec = tie.close (tie.spec read-surface-requires enum-known-read number-requires enum-known-read-2 point-on-requires returns same-length returns-2)

@@ -37,13 +37,5 @@ returns-2 c =
 pub geomcore-trace-spec : {M : Type 1} → statement M
 geomcore-trace-spec =
     tie.close
-    (tie.spec
-    read-requires
-    enum-known-read
-    number-requires
-    enum-known-read-2
-    trace-requires
-    traced-word-requires
-    returns
-    same-length
+    (tie.spec read-requires enum-known-read number-requires enum-known-read-2 trace-requires traced-word-requires returns same-length
     returns-2)

@@ -23,5 +23,4 @@ returns : tie.Need-returns
 returns c = omega arith
 
 pub line-word-spec : {M : Type 1} → statement M
-line-word-spec =
-    tie.close (tie.spec mul-result mul-result-2 add-result mul-result-3 add-result-2 returns)
+line-word-spec = tie.close (tie.spec mul-result mul-result-2 add-result mul-result-3 add-result-2 returns)

@@ -48,14 +48,5 @@ returns-3 c =
 pub point-on-spec : {M : Type 1} → statement M
 point-on-spec =
     tie.close
-    (tie.spec
-    number-requires
-    returns
-    point-requires
-    enum-known-located
-    number-requires-2
-    enum-known-located-2
-    put-requires
-    returns-2
-    same-length
-    returns-3)
+    (tie.spec number-requires returns point-requires enum-known-located number-requires-2 enum-known-located-2 put-requires returns-2
+    same-length returns-3)

@@ -23,5 +23,4 @@ unfolding put3
 returns c = refl
 
 pub put-spec : {M : Type 1} → statement M
-put-spec =
-    tie.close (tie.spec slice-write-out slice-write-out-2 slice-write-out-3 same-length returns)
+put-spec = tie.close (tie.spec slice-write-out slice-write-out-2 slice-write-out-3 same-length returns)

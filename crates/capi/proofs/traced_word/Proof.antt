@@ -28,12 +28,4 @@ unfolding tracedWord
 returns-2 c = rw (c .before .before .answer2 .given .1) (omega (arith, c .number .ensures))
 
 pub traced-word-spec : {M : Type 1} → statement M
-traced-word-spec =
-    tie.close
-    (tie.spec
-    enum-known-answer
-    line-word-requires
-    enum-known-answer-2
-    number-requires
-    returns
-    returns-2)
+traced-word-spec = tie.close (tie.spec enum-known-answer line-word-requires enum-known-answer-2 number-requires returns returns-2)

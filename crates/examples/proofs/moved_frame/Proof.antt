@@ -21,6 +21,4 @@ returns : tie.Need-returns
 returns c = rw (c .new4 .ensures, c .before .new3 .ensures, c .before .before .new2 .ensures, c .before .before .before .add .ensures, c .before .before .before .before .new .ensures)
 
 pub moved-frame-spec : {M : Type 1} → statement M
-moved-frame-spec =
-    tie.close
-    (tie.spec new-requires add-requires new-requires-2 new-requires-3 new-requires-4 returns)
+moved-frame-spec = tie.close (tie.spec new-requires add-requires new-requires-2 new-requires-3 new-requires-4 returns)

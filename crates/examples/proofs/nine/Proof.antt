@@ -31,13 +31,4 @@ returns c =
     u .trace .ensures ∙ rw (p .square-plane .ensures, p .before .unit-frame .ensures, q .square-plane2 .ensures, q .before .moved-frame .ensures)
 
 pub nine-spec : {M : Type 1} → statement M
-nine-spec =
-    tie.close
-    (tie.spec
-    unit-frame-requires
-    square-plane-requires
-    moved-frame-requires
-    square-plane-requires-2
-    trace-requires
-    same-length
-    returns)
+nine-spec = tie.close (tie.spec unit-frame-requires square-plane-requires moved-frame-requires square-plane-requires-2 trace-requires same-length returns)

@@ -61,16 +61,4 @@ returns-4 c =
     )
 
 pub both-spec : {M : Type 1} → statement M
-both-spec =
-    tie.close
-    (tie.spec
-    high-word-requires
-    kernels-requires
-    returns
-    returns-2
-    rem-pio2-requires
-    enum-known-a
-    enum-told
-    returns-3
-    both-at-requires
-    returns-4)
+both-spec = tie.close (tie.spec high-word-requires kernels-requires returns returns-2 rem-pio2-requires enum-known-a enum-told returns-3 both-at-requires returns-4)

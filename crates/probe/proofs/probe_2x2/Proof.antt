@@ -65,18 +65,5 @@ returns-4 c =
 pub probe-2x2-spec : {M : Type 1} → statement M
 probe-2x2-spec =
     tie.close
-    (tie.spec
-    returns
-    returns-2
-    row2-requires
-    row2-requires-2
-    row2-requires-3
-    shared-slice-read-solve-2x2
-    solve-2x2-requires
-    enum-known-solved
-    slice-write-output
-    slice-write-output-2
-    enum-told
-    same-length
-    returns-3
-    returns-4)
+    (tie.spec returns returns-2 row2-requires row2-requires-2 row2-requires-3 shared-slice-read-solve-2x2 solve-2x2-requires
+    enum-known-solved slice-write-output slice-write-output-2 enum-told same-length returns-3 returns-4)

@@ -71,20 +71,5 @@ returns-4 c =
 pub probe-3x3-spec : {M : Type 1} → statement M
 probe-3x3-spec =
     tie.close
-    (tie.spec
-    returns
-    returns-2
-    row3-requires
-    row3-requires-2
-    row3-requires-3
-    row3-requires-4
-    shared-slice-read-solve-3x3
-    solve-3x3-requires
-    enum-known-solved
-    slice-write-output
-    slice-write-output-2
-    slice-write-output-3
-    enum-told
-    same-length
-    returns-3
-    returns-4)
+    (tie.spec returns returns-2 row3-requires row3-requires-2 row3-requires-3 row3-requires-4 shared-slice-read-solve-3x3 solve-3x3-requires
+    enum-known-solved slice-write-output slice-write-output-2 slice-write-output-3 enum-told same-length returns-3 returns-4)

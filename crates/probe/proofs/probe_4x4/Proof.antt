@@ -79,22 +79,6 @@ returns-4 c =
 pub probe-4x4-spec : {M : Type 1} → statement M
 probe-4x4-spec =
     tie.close
-    (tie.spec
-    returns
-    returns-2
-    row4-requires
-    row4-requires-2
-    row4-requires-3
-    row4-requires-4
-    row4-requires-5
-    shared-slice-read-solve-4x4
-    solve-4x4-requires
-    enum-known-solved
-    slice-write-output
-    slice-write-output-2
-    slice-write-output-3
-    slice-write-output-4
-    enum-told
-    same-length
-    returns-3
-    returns-4)
+    (tie.spec returns returns-2 row4-requires row4-requires-2 row4-requires-3 row4-requires-4 row4-requires-5 shared-slice-read-solve-4x4
+    solve-4x4-requires enum-known-solved slice-write-output slice-write-output-2 slice-write-output-3 slice-write-output-4 enum-told
+    same-length returns-3 returns-4)

@@ -50,14 +50,5 @@ returns-4 c = rw (ne-eqb _ _ (c .before .before .if1 .left), ne-eqb _ _ (c .befo
 pub probe-solve-spec : {M : Type 1} → statement M
 probe-solve-spec =
     tie.close
-    (tie.spec
-    probe-2x2-requires
-    same-length
-    returns
-    probe-3x3-requires
-    same-length-2
-    returns-2
-    probe-4x4-requires
-    same-length-3
-    returns-3
+    (tie.spec probe-2x2-requires same-length returns probe-3x3-requires same-length-2 returns-2 probe-4x4-requires same-length-3 returns-3
     returns-4)

@@ -37,15 +37,4 @@ returns c =
     rw two
 
 pub row3-spec : {M : Type 1} → statement M
-row3-spec =
-    tie.close
-    (tie.spec
-    mul-t3
-    shared-slice-read-t5
-    add-t6
-    mul-t7
-    shared-slice-read-t9
-    add-t10
-    mul-t11
-    shared-slice-read-t13
-    returns)
+row3-spec = tie.close (tie.spec mul-t3 shared-slice-read-t5 add-t6 mul-t7 shared-slice-read-t9 add-t10 mul-t11 shared-slice-read-t13 returns)

@@ -49,16 +49,5 @@ returns c =
 pub row4-spec : {M : Type 1} → statement M
 row4-spec =
     tie.close
-    (tie.spec
-    mul-t3
-    shared-slice-read-t5
-    add-t6
-    mul-t7
-    shared-slice-read-t9
-    add-t10
-    mul-t11
-    shared-slice-read-t13
-    add-t14
-    mul-t15
-    shared-slice-read-t17
-    returns)
+    (tie.spec mul-t3 shared-slice-read-t5 add-t6 mul-t7 shared-slice-read-t9 add-t10 mul-t11 shared-slice-read-t13 add-t14 mul-t15
+    shared-slice-read-t17 returns)

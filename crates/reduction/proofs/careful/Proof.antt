@@ -55,13 +55,5 @@ returns-3 c =
 pub careful-spec : {M : Type 1} → statement M
 careful-spec =
     tie.close
-    (tie.spec
-    exponent-field-requires
-    add-if1
-    returns
-    next-difference-requires
-    exponent-field-requires-2
-    add-if2
-    returns-2
-    next-difference-requires-2
-    returns-3)
+    (tie.spec exponent-field-requires add-if1 returns next-difference-requires exponent-field-requires-2 add-if2 returns-2
+    next-difference-requires-2 returns-3)

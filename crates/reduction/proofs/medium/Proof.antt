@@ -32,6 +32,4 @@ unfolding mediumOf
 returns c = rw (c .before .before .before .refined .ensures, c .before .before .before .before .first-difference .ensures, c .before .before .before .before .before .before .truncated .ensures)
 
 pub medium-spec : {M : Type 1} → statement M
-medium-spec =
-    tie.close
-    (tie.spec truncated-requires int-to-float-n first-difference-requires refined-requires returns)
+medium-spec = tie.close (tie.spec truncated-requires int-to-float-n first-difference-requires refined-requires returns)

@@ -87,18 +87,5 @@ returns-7 c =
 pub rem-pio2-spec : {M : Type 1} → statement M
 rem-pio2-spec =
     tie.close
-    (tie.spec
-    high-word-requires
-    sign-bit-requires
-    near-above-requires
-    near-below-requires
-    abs-requires
-    medium-requires
-    negated-requires
-    returns
-    returns-2
-    returns-3
-    returns-4
-    returns-5
-    returns-6
-    returns-7)
+    (tie.spec high-word-requires sign-bit-requires near-above-requires near-below-requires abs-requires medium-requires negated-requires
+    returns returns-2 returns-3 returns-4 returns-5 returns-6 returns-7)

@@ -48,15 +48,4 @@ returns-5 : tie.Need-returns-5
 returns-5 c = sym (negative-part (c .before .before .before .before .args .x) (held (c .before .before .before .before)) (c .if4 .left))
 
 pub truncated-spec : {M : Type 1} → statement M
-truncated-spec =
-    tie.close
-    (tie.spec
-    returns
-    float-to-bits-bits
-    add-result
-    sub-result
-    shr-result
-    returns-2
-    returns-3
-    returns-4
-    returns-5)
+truncated-spec = tie.close (tie.spec returns float-to-bits-bits add-result sub-result shr-result returns-2 returns-3 returns-4 returns-5)

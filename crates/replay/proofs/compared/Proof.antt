@@ -48,18 +48,5 @@ returns-2 c = search needs
 pub compared-spec : {M : Type 1} → statement M
 compared-spec =
     tie.close
-    (tie.spec
-    Inv-loop
-    μ-loop
-    none-requires
-    loop-holds
-    slice-aggregate-read
-    read-requires
-    slice-aggregate-same
-    same-requires
-    counted-requires
-    add-counter
-    loop-less
-    loop-again
-    returns
-    returns-2)
+    (tie.spec Inv-loop μ-loop none-requires loop-holds slice-aggregate-read read-requires slice-aggregate-same same-requires
+    counted-requires add-counter loop-less loop-again returns returns-2)

@@ -31,15 +31,4 @@ returns-2 : tie.Need-returns-2 Inv-loop μ-loop
 returns-2 c = search needs
 
 pub main-spec : {M : Type 1} → statement M
-main-spec =
-    tie.close
-    (tie.spec
-    Inv-loop
-    μ-loop
-    loop-holds
-    list-requires
-    add-counter
-    loop-less
-    loop-again
-    returns
-    returns-2)
+main-spec = tie.close (tie.spec Inv-loop μ-loop loop-holds list-requires add-counter loop-less loop-again returns returns-2)

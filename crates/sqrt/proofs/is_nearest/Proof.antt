@@ -92,20 +92,5 @@ returns-2 c e =
 pub is-nearest-spec : {M : Type 1} → statement M
 is-nearest-spec =
     tie.close
-    (tie.spec
-    mul-wrapping-sub-u64
-    mul-wrapping-sub-u64-2
-    wrapping-sub-u64-requires
-    returns
-    mul-square
-    mul-used
-    mul-used-2
-    add-used
-    add-used-2
-    mul-wrapping-sub-u64-3
-    add-wrapping-sub-u64
-    wrapping-sub-u64-requires-2
-    mul-result
-    add-result
-    add-result-2
-    returns-2)
+    (tie.spec mul-wrapping-sub-u64 mul-wrapping-sub-u64-2 wrapping-sub-u64-requires returns mul-square mul-used mul-used-2 add-used
+    add-used-2 mul-wrapping-sub-u64-3 add-wrapping-sub-u64 wrapping-sub-u64-requires-2 mul-result add-result add-result-2 returns-2)

@@ -82,4 +82,7 @@ returns-2 : tie.Need-returns-2
 returns-2 c = subst (λ (x : ℕ). Nearest (x * 4503599627370496) (c .by-digits .result)) (same (c .before .before .before)) (c .by-digits .ensures)
 
 pub nearest-spec : {M : Type 1} → statement M
-nearest-spec = tie.close (tie.spec shl-a candidate-requires float-to-bits-high float-to-bits-low is-nearest-requires mul-result add-result returns by-digits-requires returns-2)
+nearest-spec =
+    tie.close
+    (tie.spec shl-a candidate-requires float-to-bits-high float-to-bits-low is-nearest-requires mul-result add-result returns
+    by-digits-requires returns-2)

@@ -43,6 +43,4 @@ returns-2 : tie.Need-returns-2
 returns-2 c = rw (c .max .ensures, c .before .sqrt2 .ensures .answer, c .before .before .sqrt .ensures .answer)
 
 pub parallel-spec : {M : Type 1} → statement M
-parallel-spec =
-    tie.close
-    (tie.spec moderate-requires moderate-requires-2 moderate-requires-3 returns sqrt-requires sqrt-requires-2 max-requires returns-2)
+parallel-spec = tie.close (tie.spec moderate-requires moderate-requires-2 moderate-requires-3 returns sqrt-requires sqrt-requires-2 max-requires returns-2)

@@ -54,6 +54,4 @@ returns-2 c =
     rw (t, ← m .magnitude .ensures, root-of (s .na), root-of (s .nb), ← d .dot .ensures, ← p .before .dot2 .ensures, ← p .parallel .ensures, i .if1 .left, ← c .scale .ensures)
 
 pub unit-cross-spec : {M : Type 1} → statement M
-unit-cross-spec =
-    tie.close
-    (tie.spec cross-requires magnitude-requires dot-requires dot-requires-2 parallel-requires scale-requires returns returns-2)
+unit-cross-spec = tie.close (tie.spec cross-requires magnitude-requires dot-requires dot-requires-2 parallel-requires scale-requires returns returns-2)

@@ -23,5 +23,4 @@ unfolding eightAt
 returns c = rw (c .four2 .ensures .0, c .before .four .ensures .0)
 
 pub eight-spec : {M : Type 1} → statement M
-eight-spec =
-    tie.close (tie.spec four-requires mul-result add-four four-requires-2 add-result returns)
+eight-spec = tie.close (tie.spec four-requires mul-result add-four four-requires-2 add-result returns)

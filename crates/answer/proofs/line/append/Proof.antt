@@ -26,6 +26,4 @@ returns : tie.Need-returns
 returns c = (rw (c .before .before .copy .ensures .0), laid-part _ _ _ _ (omega arith) (c .before .before .copy .ensures .1))
 
 pub append-spec : {M : Type 1} → statement M
-append-spec =
-    tie.close
-    (tie.spec sub-copy part-copy-start part-copy-end copy-requires add-result same-length returns)
+append-spec = tie.close (tie.spec sub-copy part-copy-start part-copy-end copy-requires add-result same-length returns)

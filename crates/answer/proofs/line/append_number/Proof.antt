@@ -30,14 +30,4 @@ returns c =
     number-laid (d .last .1 .0) _ _ _ (d .result) _ _ (d .ensures .2) (d .ensures .1) (c .before .before .append .ensures)
 
 pub append-number-spec : {M : Type 1} → statement M
-append-number-spec =
-    tie.close
-    (tie.spec
-    slice-aggregate-digits
-    digits-requires
-    sub-append
-    part-append-start
-    part-append-end
-    append-requires
-    same-length
-    returns)
+append-number-spec = tie.close (tie.spec slice-aggregate-digits digits-requires sub-append part-append-start part-append-end append-requires same-length returns)

@@ -57,17 +57,5 @@ returns-2 c =
 pub digits-spec : {M : Type 1} → statement M
 digits-spec =
     tie.close
-    (tie.spec
-    Inv-loop
-    μ-loop
-    loop-holds
-    sub-at
-    digit-requires
-    slice-write-text
-    same-length
-    returns
-    add-i
-    loop-less
-    loop-again
-    same-length-2
+    (tie.spec Inv-loop μ-loop loop-holds sub-at digit-requires slice-write-text same-length returns add-i loop-less loop-again same-length-2
     returns-2)

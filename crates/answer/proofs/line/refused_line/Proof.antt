@@ -31,12 +31,4 @@ returns c =
     rw (← refused-line-is n) t3
 
 pub refused-line-spec : {M : Type 1} → statement M
-refused-line-spec =
-    tie.close
-    (tie.spec
-    slice-aggregate-append
-    append-requires
-    append-number-requires
-    slice-aggregate-append-2
-    append-requires-2
-    returns)
+refused-line-spec = tie.close (tie.spec slice-aggregate-append append-requires append-number-requires slice-aggregate-append-2 append-requires-2 returns)

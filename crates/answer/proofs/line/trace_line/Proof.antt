@@ -62,16 +62,6 @@ returns c =
 pub trace-line-spec : {M : Type 1} → statement M
 trace-line-spec =
     tie.close
-    (tie.spec
-    slice-aggregate-append
-    append-requires
-    append-number-requires
-    slice-aggregate-append-2
-    append-requires-2
-    append-number-requires-2
-    slice-aggregate-append-3
-    append-requires-3
-    append-number-requires-3
-    slice-aggregate-append-4
-    append-requires-4
+    (tie.spec slice-aggregate-append append-requires append-number-requires slice-aggregate-append-2 append-requires-2
+    append-number-requires-2 slice-aggregate-append-3 append-requires-3 append-number-requires-3 slice-aggregate-append-4 append-requires-4
     returns)

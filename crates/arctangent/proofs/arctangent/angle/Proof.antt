@@ -102,22 +102,6 @@ returns-5 c =
 pub angle-spec : {M : Type 1} → statement M
 angle-spec =
     tie.close
-    (tie.spec
-    sign-bit-requires
-    to-bits-requires
-    magnitude-bits-requires
-    on-axis-requires
-    returns
-    magnitude-bits-requires-2
-    upright-requires
-    returns-2
-    high-word-requires
-    high-word-requires-2
-    far-along-requires
-    returns-3
-    upright-requires-2
-    returns-4
-    sign-bit-requires-2
-    quotient-requires
-    around-requires
-    returns-5)
+    (tie.spec sign-bit-requires to-bits-requires magnitude-bits-requires on-axis-requires returns magnitude-bits-requires-2 upright-requires
+    returns-2 high-word-requires high-word-requires-2 far-along-requires returns-3 upright-requires-2 returns-4 sign-bit-requires-2
+    quotient-requires around-requires returns-5)

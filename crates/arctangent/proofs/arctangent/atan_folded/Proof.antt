@@ -33,14 +33,4 @@ unfolding foldedOf
 returns-4 c = rw (c .from-known4 .ensures, le-ltb _ _ (c .before .before .before .if1 .left), le-ltb _ _ (c .before .before .if2 .left), le-ltb _ _ (c .before .if3 .left))
 
 pub atan-folded-spec : {M : Type 1} → statement M
-atan-folded-spec =
-    tie.close
-    (tie.spec
-    from-known-requires
-    from-known-requires-2
-    from-known-requires-3
-    from-known-requires-4
-    returns
-    returns-2
-    returns-3
-    returns-4)
+atan-folded-spec = tie.close (tie.spec from-known-requires from-known-requires-2 from-known-requires-3 from-known-requires-4 returns returns-2 returns-3 returns-4)

@@ -32,5 +32,4 @@ returns-3 c =
     (⊎-elim (λ w. rw (w .0 .taken, w .1 .left)) (λ w. rw (ne-eqb _ _ (w .left))) (c .before .before .if2 .came))
 
 pub quotient-spec : {M : Type 1} → statement M
-quotient-spec =
-    tie.close (tie.spec add-if1 returns add-if3 returns-2 abs-requires atan-requires returns-3)
+quotient-spec = tie.close (tie.spec add-if1 returns add-if3 returns-2 abs-requires atan-requires returns-3)

@@ -66,15 +66,5 @@ returns-6 c =
 pub crossing-fitness-spec : {M : Type 1} → statement M
 crossing-fitness-spec =
     tie.close
-    (tie.spec
-    is-fit-requires
-    returns
-    holds-requires
-    returns-2
-    count-fits-requires
-    returns-3
-    some-unfit-requires
-    returns-4
-    box-fit-requires
-    returns-5
-    returns-6)
+    (tie.spec is-fit-requires returns holds-requires returns-2 count-fits-requires returns-3 some-unfit-requires returns-4 box-fit-requires
+    returns-5 returns-6)

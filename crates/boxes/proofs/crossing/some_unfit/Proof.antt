@@ -53,16 +53,4 @@ returns-2 c =
     any-done (unfitAt (now (g .points))) (c .before .loop .i) (g .count) (c .loop-test .left) (c .before .loop .inv .0)
 
 pub some-unfit-spec : {M : Type 1} → statement M
-some-unfit-spec =
-    tie.close
-    (tie.spec
-    Inv-loop
-    μ-loop
-    loop-holds
-    point-at-requires
-    is-fit-requires
-    returns
-    add-i
-    loop-less
-    loop-again
-    returns-2)
+some-unfit-spec = tie.close (tie.spec Inv-loop μ-loop loop-holds point-at-requires is-fit-requires returns add-i loop-less loop-again returns-2)

@@ -56,4 +56,7 @@ returns-4 c =
     rw (← c14 .clip .ensures, c12 .x .given .1, ← c8 .clip2 .ensures, c6 .y .given .1) (ap met (sym (c .enum-told3 .given .1) ∙ c2 .clip3 .ensures))
 
 pub segment-meets-box-spec : {M : Type 1} → statement M
-segment-meets-box-spec = tie.close (tie.spec clip-requires enum-known-x enum-told returns clip-requires-2 enum-known-y enum-told-2 returns-2 clip-requires-3 enum-told-3 enum-told-4 returns-3 returns-4)
+segment-meets-box-spec =
+    tie.close
+    (tie.spec clip-requires enum-known-x enum-told returns clip-requires-2 enum-known-y enum-told-2 returns-2 clip-requires-3 enum-told-3
+    enum-told-4 returns-3 returns-4)

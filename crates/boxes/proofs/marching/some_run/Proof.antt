@@ -90,23 +90,5 @@ returns-2 c =
 pub some-run-spec : {M : Type 1} → statement M
 some-run-spec =
     tie.close
-    (tie.spec
-    Inv-loop
-    μ-loop
-    sub-runs
-    sub-runs-2
-    add-runs
-    loop-holds
-    mul-first
-    mul-start
-    mul-run
-    sub-run
-    part-run-start
-    part-run-end
-    run-points-requires
-    run-crosses-requires
-    returns
-    add-r
-    loop-less
-    loop-again
-    returns-2)
+    (tie.spec Inv-loop μ-loop sub-runs sub-runs-2 add-runs loop-holds mul-first mul-start mul-run sub-run part-run-start part-run-end
+    run-points-requires run-crosses-requires returns add-r loop-less loop-again returns-2)

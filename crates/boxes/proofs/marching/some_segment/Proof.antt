@@ -64,17 +64,5 @@ returns-2 c =
 pub some-segment-spec : {M : Type 1} → statement M
 some-segment-spec =
     tie.close
-    (tie.spec
-    Inv-loop
-    μ-loop
-    sub-i-end
-    loop-holds
-    point-at-requires
-    add-point-at
-    point-at-requires-2
-    segment-meets-box-requires
-    returns
-    add-i
-    loop-less
-    loop-again
-    returns-2)
+    (tie.spec Inv-loop μ-loop sub-i-end loop-holds point-at-requires add-point-at point-at-requires-2 segment-meets-box-requires returns
+    add-i loop-less loop-again returns-2)

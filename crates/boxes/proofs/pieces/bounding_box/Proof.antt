@@ -52,15 +52,5 @@ returns c = ranged-done _ (c .before .loop .i) (c .before .before .before .befor
 pub bounding-box-spec : {M : Type 1} → statement M
 bounding-box-spec =
     tie.close
-    (tie.spec
-    Inv-loop
-    μ-loop
-    point-at-requires
-    point-box-requires
-    loop-holds
-    point-at-requires-2
-    cover-requires
-    add-i
-    loop-less
-    loop-again
+    (tie.spec Inv-loop μ-loop point-at-requires point-box-requires loop-holds point-at-requires-2 cover-requires add-i loop-less loop-again
     returns)

@@ -48,4 +48,7 @@ returns-4 c =
     rw (← p .before .before .pair-fitness .ensures, p .enum-told .given .1, ← h .holds .ensures, not-false (h .holds .result) (s .before .if1 .left), ← s .claim-so .ensures, not-false (s .claim-so .result) (c .before .if2 .left)) (c .points-verdict .ensures ∙ sym (last-test _))
 
 pub check-spec : {M : Type 1} → statement M
-check-spec = tie.close (tie.spec pair-fitness-requires enum-known-pair enum-told holds-requires returns claim-so-requires returns-2 points-verdict-requires returns-3 returns-4)
+check-spec =
+    tie.close
+    (tie.spec pair-fitness-requires enum-known-pair enum-told holds-requires returns claim-so-requires returns-2 points-verdict-requires
+    returns-3 returns-4)

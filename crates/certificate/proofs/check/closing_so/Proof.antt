@@ -58,17 +58,5 @@ returns-6 c = rw (ne-eqb _ 0 (c .before .before .if1 .left), ne-eqb _ 1 (c .befo
 pub closing-so-spec : {M : Type 1} → statement M
 closing-so-spec =
     tie.close
-    (tie.spec
-    returns
-    sub-row-of
-    row-of-requires
-    row-of-requires-2
-    same-row-requires
-    returns-2
-    returns-3
-    row-of-requires-3
-    row-of-requires-4
-    same-row-requires-2
-    returns-4
-    returns-5
-    returns-6)
+    (tie.spec returns sub-row-of row-of-requires row-of-requires-2 same-row-requires returns-2 returns-3 row-of-requires-3 row-of-requires-4
+    same-row-requires-2 returns-4 returns-5 returns-6)

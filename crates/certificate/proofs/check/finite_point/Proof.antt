@@ -25,12 +25,4 @@ unfolding finitePoint
 returns-3 c = rw (← c .before .is-finite .ensures, c .if1 .left)
 
 pub finite-point-spec : {M : Type 1} → statement M
-finite-point-spec =
-    tie.close
-    (tie.spec
-    is-finite-requires
-    is-finite-requires-2
-    is-finite-requires-3
-    returns
-    returns-2
-    returns-3)
+finite-point-spec = tie.close (tie.spec is-finite-requires is-finite-requires-2 is-finite-requires-3 returns returns-2 returns-3)

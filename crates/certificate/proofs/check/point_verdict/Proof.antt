@@ -64,16 +64,5 @@ returns-5 c =
 pub point-verdict-spec : {M : Type 1} → statement M
 point-verdict-spec =
     tie.close
-    (tie.spec
-    inside-requires
-    returns
-    eval-point-requires
-    point-requires
-    own-requires
-    returns-2
-    eval-point-requires-2
-    within-requires
-    returns-3
-    chord-fits-requires
-    returns-4
-    returns-5)
+    (tie.spec inside-requires returns eval-point-requires point-requires own-requires returns-2 eval-point-requires-2 within-requires
+    returns-3 chord-fits-requires returns-4 returns-5)

@@ -70,17 +70,5 @@ returns-2 c = searched-done _ allPassed (c .before .loop .i) (c .before .before 
 pub points-verdict-spec : {M : Type 1} → statement M
 points-verdict-spec =
     tie.close
-    (tie.spec
-    Inv-loop
-    μ-loop
-    row-of-requires
-    loop-holds
-    row-of-requires-2
-    point-verdict-requires
-    enum-known-verdict
-    returns
-    enum-told
-    add-i
-    loop-less
-    loop-again
-    returns-2)
+    (tie.spec Inv-loop μ-loop row-of-requires loop-holds row-of-requires-2 point-verdict-requires enum-known-verdict returns enum-told add-i
+    loop-less loop-again returns-2)

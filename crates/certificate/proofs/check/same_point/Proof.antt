@@ -36,12 +36,4 @@ unfolding sameNumbers
 returns-3 c = rw (← c .before .same-bits .ensures, c .if1 .left)
 
 pub same-point-spec : {M : Type 1} → statement M
-same-point-spec =
-    tie.close
-    (tie.spec
-    same-bits-requires
-    same-bits-requires-2
-    same-bits-requires-3
-    returns
-    returns-2
-    returns-3)
+same-point-spec = tie.close (tie.spec same-bits-requires same-bits-requires-2 same-bits-requires-3 returns returns-2 returns-3)

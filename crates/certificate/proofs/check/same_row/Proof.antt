@@ -64,19 +64,5 @@ returns-2 c =
 pub same-row-spec : {M : Type 1} → statement M
 same-row-spec =
     tie.close
-    (tie.spec
-    Inv-loop
-    μ-loop
-    numbers-requires
-    numbers-requires-2
-    loop-holds
-    mul-same-bits
-    array-read-same-bits
-    mul-same-bits-2
-    array-read-same-bits-2
-    same-bits-requires
-    returns
-    add-k
-    loop-less
-    loop-again
-    returns-2)
+    (tie.spec Inv-loop μ-loop numbers-requires numbers-requires-2 loop-holds mul-same-bits array-read-same-bits mul-same-bits-2
+    array-read-same-bits-2 same-bits-requires returns add-k loop-less loop-again returns-2)

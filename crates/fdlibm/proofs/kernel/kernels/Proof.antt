@@ -23,5 +23,4 @@ returns-2 : tie.Need-returns-2
 returns-2 c = search needs
 
 pub kernels-spec : {M : Type 1} → statement M
-kernels-spec =
-    tie.close (tie.spec high-word-requires returns kernel-sin-requires kernel-cos-requires returns-2)
+kernels-spec = tie.close (tie.spec high-word-requires returns kernel-sin-requires kernel-cos-requires returns-2)

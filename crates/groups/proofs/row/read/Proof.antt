@@ -70,25 +70,6 @@ returns c = refl
 pub read-spec : {M : Type 1} → statement M
 read-spec =
     tie.close
-    (tie.spec
-    mul-t3
-    shared-slice-read-t5
-    add-t6
-    mul-t7
-    shared-slice-read-t9
-    add-t10
-    mul-t11
-    shared-slice-read-t13
-    add-t14
-    mul-t15
-    shared-slice-read-t17
-    add-t18
-    mul-t19
-    shared-slice-read-t21
-    add-t22
-    mul-t23
-    shared-slice-read-t25
-    add-t26
-    mul-t27
-    shared-slice-read-t29
+    (tie.spec mul-t3 shared-slice-read-t5 add-t6 mul-t7 shared-slice-read-t9 add-t10 mul-t11 shared-slice-read-t13 add-t14 mul-t15
+    shared-slice-read-t17 add-t18 mul-t19 shared-slice-read-t21 add-t22 mul-t23 shared-slice-read-t25 add-t26 mul-t27 shared-slice-read-t29
     returns)

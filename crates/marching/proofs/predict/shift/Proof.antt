@@ -41,4 +41,7 @@ returns-2 c =
     rw (← c7 .dot .ensures, ← c6 .dot2 .ensures, ← c5 .dot3 .ensures, ← c4 .dot4 .ensures, ← c3 .dot5 .ensures) (ap orZero (sym (c .enum-told .given .1) ∙ c2 .solve-2x2 .ensures))
 
 pub shift-spec : {M : Type 1} → statement M
-shift-spec = tie.close (tie.spec dot-requires dot-requires-2 dot-requires-3 dot-requires-4 dot-requires-5 solve-2x2-requires enum-known-solved enum-told returns returns-2)
+shift-spec =
+    tie.close
+    (tie.spec dot-requires dot-requires-2 dot-requires-3 dot-requires-4 dot-requires-5 solve-2x2-requires enum-known-solved enum-told
+    returns returns-2)

@@ -39,5 +39,5 @@ returns-3 c = rw (c .pin-correction .ensures, c .before .before .before .before 
 pub newton-correction-spec : {M : Type 1} → statement M
 newton-correction-spec =
     tie.close
-    (tie.spec jacobian-requires enum-told free-correction-requires enum-known-target plane-correction-requires enum-known-target-2 pin-correction-requires
-    returns returns-2 returns-3)
+    (tie.spec jacobian-requires enum-told free-correction-requires enum-known-target plane-correction-requires enum-known-target-2
+    pin-correction-requires returns returns-2 returns-3)

@@ -64,17 +64,5 @@ returns-2 c = c .last-test .ensures ∙ searched-done _ _ _ mostRounds (c .befor
 pub newton-spec : {M : Type 1} → statement M
 newton-spec =
     tie.close
-    (tie.spec
-    Inv-loop
-    μ-loop
-    residual-at-requires
-    loop-holds
-    newton-round-requires
-    enum-known-round
-    returns
-    enum-known-round-2
-    add-counter
-    loop-less
-    loop-again
-    last-test-requires
-    returns-2)
+    (tie.spec Inv-loop μ-loop residual-at-requires loop-holds newton-round-requires enum-known-round returns enum-known-round-2 add-counter
+    loop-less loop-again last-test-requires returns-2)

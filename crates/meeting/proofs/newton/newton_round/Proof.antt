@@ -71,5 +71,5 @@ returns-4 c =
 pub newton-round-spec : {M : Type 1} → statement M
 newton-round-spec =
     tie.close
-    (tie.spec near-requires returns newton-correction-requires enum-known-correction enum-told returns-2 trials-requires enum-known-trial enum-told-2
-    last-test-requires returns-3 returns-4)
+    (tie.spec near-requires returns newton-correction-requires enum-known-correction enum-told returns-2 trials-requires enum-known-trial
+    enum-told-2 last-test-requires returns-3 returns-4)

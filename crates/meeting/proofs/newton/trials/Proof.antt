@@ -58,15 +58,5 @@ returns-2 c = searched-done _ _ _ mostTrials (c .loop-test .left) (c .before .lo
 pub trials-spec : {M : Type 1} → statement M
 trials-spec =
     tie.close
-    (tie.spec
-    Inv-loop
-    μ-loop
-    loop-holds
-    shifted-requires
-    within-bounds-requires
-    residual-at-requires
-    returns
-    add-counter
-    loop-less
-    loop-again
-    returns-2)
+    (tie.spec Inv-loop μ-loop loop-holds shifted-requires within-bounds-requires residual-at-requires returns add-counter loop-less
+    loop-again returns-2)

@@ -55,20 +55,6 @@ returns c = rw (c .window2 .ensures, c .before .window .ensures, c .before .befo
 pub patch-at-spec : {M : Type 1} → statement M
 patch-at-spec =
     tie.close
-    (tie.spec
-    add-frame
-    frame-requires
-    mul-surface
-    shared-slice-read-surface
-    add-surface
-    mul-surface-2
-    shared-slice-read-surface-2
-    add-surface-2
-    mul-surface-3
-    shared-slice-read-surface-3
-    surface-requires
-    add-window
-    window-requires
-    add-window-2
-    window-requires-2
+    (tie.spec add-frame frame-requires mul-surface shared-slice-read-surface add-surface mul-surface-2 shared-slice-read-surface-2
+    add-surface-2 mul-surface-3 shared-slice-read-surface-3 surface-requires add-window window-requires add-window-2 window-requires-2
     returns)

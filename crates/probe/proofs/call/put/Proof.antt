@@ -38,4 +38,7 @@ unfolding putThree
 returns c = refl
 
 pub put-spec : {M : Type 1} → statement M
-put-spec = tie.close (tie.spec mul-output slice-write-output add-output mul-output-2 slice-write-output-2 add-output-2 mul-output-3 slice-write-output-3 same-length returns)
+put-spec =
+    tie.close
+    (tie.spec mul-output slice-write-output add-output mul-output-2 slice-write-output-2 add-output-2 mul-output-3 slice-write-output-3
+    same-length returns)

@@ -35,4 +35,7 @@ unfolding vectorFrom
 returns c = rw (c .new .ensures)
 
 pub vector-spec : {M : Type 1} → statement M
-vector-spec = tie.close (tie.spec mul-new shared-slice-read-new add-new mul-new-2 shared-slice-read-new-2 add-new-2 mul-new-3 shared-slice-read-new-3 new-requires returns)
+vector-spec =
+    tie.close
+    (tie.spec mul-new shared-slice-read-new add-new mul-new-2 shared-slice-read-new-2 add-new-2 mul-new-3 shared-slice-read-new-3
+    new-requires returns)

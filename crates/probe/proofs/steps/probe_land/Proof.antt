@@ -33,14 +33,4 @@ unfolding probeLand
 returns-2 c = rw (← c .before .before .land .ensures, c .enum-told .given .1)
 
 pub probe-land-spec : {M : Type 1} → statement M
-probe-land-spec =
-    tie.close
-    (tie.spec
-    shared-slice-read-land
-    land-requires
-    enum-known-met
-    put-parameters-requires
-    enum-told
-    same-length
-    returns
-    returns-2)
+probe-land-spec = tie.close (tie.spec shared-slice-read-land land-requires enum-known-met put-parameters-requires enum-told same-length returns returns-2)

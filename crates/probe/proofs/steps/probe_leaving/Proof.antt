@@ -30,14 +30,4 @@ unfolding probeLeaving
 returns-2 c = rw (← c .before .before .before .parameters .ensures, ← c .before .before .leaving .ensures, c .enum-told .given .1)
 
 pub probe-leaving-spec : {M : Type 1} → statement M
-probe-leaving-spec =
-    tie.close
-    (tie.spec
-    parameters-requires
-    leaving-requires
-    enum-known-exit
-    slice-write-output
-    enum-told
-    same-length
-    returns
-    returns-2)
+probe-leaving-spec = tie.close (tie.spec parameters-requires leaving-requires enum-known-exit slice-write-output enum-told same-length returns returns-2)

@@ -30,13 +30,4 @@ unfolding probeMeet
 returns-2 c = rw (← c .before .before .meet .ensures, c .enum-told .given .1)
 
 pub probe-meet-spec : {M : Type 1} → statement M
-probe-meet-spec =
-    tie.close
-    (tie.spec
-    meet-requires
-    enum-known-met
-    put-parameters-requires
-    enum-told
-    same-length
-    returns
-    returns-2)
+probe-meet-spec = tie.close (tie.spec meet-requires enum-known-met put-parameters-requires enum-told same-length returns returns-2)

@@ -40,13 +40,5 @@ returns-2 c =
 pub probe-meet-in-plane-spec : {M : Type 1} → statement M
 probe-meet-in-plane-spec =
     tie.close
-    (tie.spec
-    point-requires
-    vector-requires
-    meet-in-plane-requires
-    enum-known-met
-    put-parameters-requires
-    enum-told
-    same-length
-    returns
+    (tie.spec point-requires vector-requires meet-in-plane-requires enum-known-met put-parameters-requires enum-told same-length returns
     returns-2)

@@ -20,6 +20,4 @@ unfolding probePredict
 returns c = rw (← c .before .before .before .before .before .vector .ensures, ← c .before .before .before .before .predict .ensures, ← c .before .before .put-parameters .ensures)
 
 pub probe-predict-spec : {M : Type 1} → statement M
-probe-predict-spec =
-    tie.close
-    (tie.spec vector-requires predict-requires put-parameters-requires same-length returns)
+probe-predict-spec = tie.close (tie.spec vector-requires predict-requires put-parameters-requires same-length returns)

@@ -134,26 +134,6 @@ returns-9 c =
 pub probe-step-spec : {M : Type 1} → statement M
 probe-step-spec =
     tie.close
-    (tie.spec
-    returns
-    returns-2
-    read-requires
-    probe-tangent-requires
-    same-length
-    returns-3
-    probe-predict-requires
-    same-length-2
-    returns-4
-    probe-leaving-requires
-    same-length-3
-    returns-5
-    probe-meet-requires
-    same-length-4
-    returns-6
-    probe-meet-in-plane-requires
-    same-length-5
-    returns-7
-    probe-land-requires
-    same-length-6
-    returns-8
-    returns-9)
+    (tie.spec returns returns-2 read-requires probe-tangent-requires same-length returns-3 probe-predict-requires same-length-2 returns-4
+    probe-leaving-requires same-length-3 returns-5 probe-meet-requires same-length-4 returns-6 probe-meet-in-plane-requires same-length-5
+    returns-7 probe-land-requires same-length-6 returns-8 returns-9)

@@ -30,13 +30,4 @@ unfolding probeTangent
 returns-2 c = rw (← c .before .before .tangent .ensures, c .enum-told .given .1)
 
 pub probe-tangent-spec : {M : Type 1} → statement M
-probe-tangent-spec =
-    tie.close
-    (tie.spec
-    tangent-requires
-    enum-known-direction
-    put-requires
-    enum-told
-    same-length
-    returns
-    returns-2)
+probe-tangent-spec = tie.close (tie.spec tangent-requires enum-known-direction put-requires enum-told same-length returns returns-2)

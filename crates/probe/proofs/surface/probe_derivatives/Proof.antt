@@ -28,5 +28,4 @@ returns-2 c =
     rw (le-ltb _ _ (e .before .if1 .left), ← e .eval-d1 .ensures, ← q .put .ensures, ← c .before .before .put2 .ensures)
 
 pub probe-derivatives-spec : {M : Type 1} → statement M
-probe-derivatives-spec =
-    tie.close (tie.spec returns eval-d1-requires put-requires put-requires-2 same-length returns-2)
+probe-derivatives-spec = tie.close (tie.spec returns eval-d1-requires put-requires put-requires-2 same-length returns-2)

@@ -24,5 +24,4 @@ returns-2 c =
     rw (le-ltb _ _ (e .before .if1 .left), ← e .eval-point .ensures, ← c .before .before .put .ensures)
 
 pub probe-point-spec : {M : Type 1} → statement M
-probe-point-spec =
-    tie.close (tie.spec returns eval-point-requires put-requires same-length returns-2)
+probe-point-spec = tie.close (tie.spec returns eval-point-requires put-requires same-length returns-2)

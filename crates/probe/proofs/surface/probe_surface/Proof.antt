@@ -53,14 +53,5 @@ returns-5 c =
 pub probe-surface-spec : {M : Type 1} → statement M
 probe-surface-spec =
     tie.close
-    (tie.spec
-    returns
-    returns-2
-    surface-requires
-    probe-point-requires
-    same-length
-    returns-3
-    probe-derivatives-requires
-    same-length-2
-    returns-4
-    returns-5)
+    (tie.spec returns returns-2 surface-requires probe-point-requires same-length returns-3 probe-derivatives-requires same-length-2
+    returns-4 returns-5)

@@ -74,17 +74,5 @@ returns-2 c =
 pub differ-spec : {M : Type 1} → statement M
 differ-spec =
     tie.close
-    (tie.spec
-    Inv-loop
-    μ-loop
-    loop-holds
-    mul-to-bits
-    shared-slice-read-to-bits
-    to-bits-requires
-    mul-word
-    word-requires
-    returns
-    add-k
-    loop-less
-    loop-again
-    returns-2)
+    (tie.spec Inv-loop μ-loop loop-holds mul-to-bits shared-slice-read-to-bits to-bits-requires mul-word word-requires returns add-k
+    loop-less loop-again returns-2)

@@ -55,17 +55,5 @@ returns c = ranged-done _ _ _ (c .loop-test .left) (c .before .loop .inv .0)
 pub load-spec : {M : Type 1} → statement M
 load-spec =
     tie.close
-    (tie.spec
-    Inv-loop
-    μ-loop
-    loop-holds
-    mul-word
-    word-requires
-    from-bits-requires
-    mul-numbers
-    slice-write-numbers
-    add-k
-    loop-less
-    loop-again
-    same-length
-    returns)
+    (tie.spec Inv-loop μ-loop loop-holds mul-word word-requires from-bits-requires mul-numbers slice-write-numbers add-k loop-less
+    loop-again same-length returns)

@@ -51,19 +51,5 @@ returns c = search needs
 pub numbers-spec : {M : Type 1} → statement M
 numbers-spec =
     tie.close
-    (tie.spec
-    Inv-loop
-    μ-loop
-    loop-holds
-    mul-word
-    add-word
-    word-requires
-    from-bits-requires
-    mul-lent
-    add-lent
-    mul-lent-2
-    array-write-lent
-    add-i
-    loop-less
-    loop-again
-    returns)
+    (tie.spec Inv-loop μ-loop loop-holds mul-word add-word word-requires from-bits-requires mul-lent add-lent mul-lent-2 array-write-lent
+    add-i loop-less loop-again returns)

@@ -40,15 +40,5 @@ returns c = search needs
 pub written-spec : {M : Type 1} → statement M
 written-spec =
     tie.close
-    (tie.spec
-    two-requires
-    at-most-requires
-    add-end
-    sub-answer
-    part-answer-start
-    part-answer-end
-    answer-requires
-    array-share-prefix-line
-    slice-aggregate-write-all
-    write-all-requires
-    returns)
+    (tie.spec two-requires at-most-requires add-end sub-answer part-answer-start part-answer-end answer-requires array-share-prefix-line
+    slice-aggregate-write-all write-all-requires returns)

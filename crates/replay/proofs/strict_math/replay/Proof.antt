@@ -45,17 +45,5 @@ returns c = search needs
 pub replay-spec : {M : Type 1} → statement M
 replay-spec =
     tie.close
-    (tie.spec
-    Inv-loop
-    μ-loop
-    nothing-requires
-    loop-holds
-    slice-aggregate-next
-    next-requires
-    slice-aggregate-one
-    one-requires
-    add-counter
-    loop-less
-    loop-again
-    write-requires
-    returns)
+    (tie.spec Inv-loop μ-loop nothing-requires loop-holds slice-aggregate-next next-requires slice-aggregate-one one-requires add-counter
+    loop-less loop-again write-requires returns)

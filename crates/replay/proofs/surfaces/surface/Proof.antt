@@ -48,18 +48,5 @@ returns c = search needs
 pub surface-spec : {M : Type 1} → statement M
 surface-spec =
     tie.close
-    (tie.spec
-    Inv-loop
-    μ-loop
-    word-requires
-    unused-requires
-    shared-slice-read-surface
-    array-write-surface
-    loop-holds
-    add-surface
-    shared-slice-read-surface-2
-    array-write-surface-2
-    add-k
-    loop-less
-    loop-again
-    returns)
+    (tie.spec Inv-loop μ-loop word-requires unused-requires shared-slice-read-surface array-write-surface loop-holds add-surface
+    shared-slice-read-surface-2 array-write-surface-2 add-k loop-less loop-again returns)

@@ -31,15 +31,4 @@ returns : tie.Need-returns Inv-loop μ-loop
 returns c = search needs
 
 pub filled-spec : {M : Type 1} → statement M
-filled-spec =
-    tie.close
-    (tie.spec
-    Inv-loop
-    μ-loop
-    loop-holds
-    mul-buffer
-    array-write-buffer
-    add-k
-    loop-less
-    loop-again
-    returns)
+filled-spec = tie.close (tie.spec Inv-loop μ-loop loop-holds mul-buffer array-write-buffer add-k loop-less loop-again returns)

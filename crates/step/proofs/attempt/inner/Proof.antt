@@ -62,5 +62,5 @@ returns-3 c =
 pub inner-spec : {M : Type 1} → statement M
 inner-spec =
     tie.close
-    (tie.spec scale-requires add-requires meet-in-plane-requires enum-known-met enum-told returns tangent-requires enum-known-direction enum-told-2 returns-2
-    eval-point-requires scale-requires-2 onward-requires returns-3)
+    (tie.spec scale-requires add-requires meet-in-plane-requires enum-known-met enum-told returns tangent-requires enum-known-direction
+    enum-told-2 returns-2 eval-point-requires scale-requires-2 onward-requires returns-3)

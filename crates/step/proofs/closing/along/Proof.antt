@@ -23,6 +23,4 @@ unfolding alongOf
 returns c = rw (c .max .ensures, c .before .dot2 .ensures, c .before .before .dot .ensures, c .before .before .before .sub2 .ensures, c .before .before .before .before .sub .ensures)
 
 pub along-spec : {M : Type 1} → statement M
-along-spec =
-    tie.close
-    (tie.spec sub-requires sub-requires-2 dot-requires dot-requires-2 max-requires returns)
+along-spec = tie.close (tie.spec sub-requires sub-requires-2 dot-requires dot-requires-2 max-requires returns)

@@ -33,14 +33,4 @@ unfolding closesOf
 returns-3 c = rw (← c .before .along .ensures, c .if1 .left)
 
 pub closes-spec : {M : Type 1} → statement M
-closes-spec =
-    tie.close
-    (tie.spec
-    along-requires
-    sub-requires
-    scale-requires
-    add-requires
-    distance-requires
-    returns
-    returns-2
-    returns-3)
+closes-spec = tie.close (tie.spec along-requires sub-requires scale-requires add-requires distance-requires returns returns-2 returns-3)

@@ -55,5 +55,4 @@ returns-2 c =
     (left-alone _ _ (rw (c .before .before .min .ensures) (longest-number _)) (sym (c .before .at-most .ensures) ∙ c .if1 .left))
 
 pub next-stride-spec : {M : Type 1} → statement M
-next-stride-spec =
-    tie.close (tie.spec max-requires min-requires at-most-requires sqrt-requires min-requires-2 returns returns-2)
+next-stride-spec = tie.close (tie.spec max-requires min-requires at-most-requires sqrt-requires min-requires-2 returns returns-2)

@@ -21,6 +21,4 @@ unfolding innerStep
 returns-2 c = rw (← c .before .before .came-round .ensures, c .before .if1 .left, ← c .next-stride .ensures)
 
 pub inner-step-spec : {M : Type 1} → statement M
-inner-step-spec =
-    tie.close
-    (tie.spec came-round-requires distance-requires next-stride-requires returns returns-2)
+inner-step-spec = tie.close (tie.spec came-round-requires distance-requires next-stride-requires returns returns-2)

@@ -34,15 +34,4 @@ unfolding stepOf
 returns-3 c = rw (← c .before .before .shorten .ensures, c .enum-told .given .1)
 
 pub step-spec : {M : Type 1} → statement M
-step-spec =
-    tie.close
-    (tie.spec
-    shorten-requires
-    enum-known-stride
-    inner-step-requires
-    enum-known-stride-2
-    edge-step-requires
-    enum-told
-    returns
-    returns-2
-    returns-3)
+step-spec = tie.close (tie.spec shorten-requires enum-known-stride inner-step-requires enum-known-stride-2 edge-step-requires enum-told returns returns-2 returns-3)

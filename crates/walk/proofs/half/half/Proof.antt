@@ -181,38 +181,7 @@ returns-4 c =
 pub half-spec : {M : Type 1} → statement M
 half-spec =
     tie.close
-    (tie.spec
-    Inv-loop
-    μ-loop
-    first-walker-requires
-    first-stride-requires
-    loop-holds
-    step-requires
-    enum-known-stepped
-    mul-put
-    row-for-requires
-    put-requires
-    add-count
-    enum-known-stepped-2
-    left-of-requires
-    mul-put-2
-    row-for-requires-2
-    put-requires-2
-    add-t30
-    same-length
-    returns
-    enum-known-stepped-3
-    mul-put-3
-    row-for-requires-3
-    put-requires-3
-    add-t35
-    same-length-2
-    returns-2
-    enum-told
-    same-length-3
-    returns-3
-    add-counter
-    loop-less
-    loop-again
-    same-length-4
-    returns-4)
+    (tie.spec Inv-loop μ-loop first-walker-requires first-stride-requires loop-holds step-requires enum-known-stepped mul-put
+    row-for-requires put-requires add-count enum-known-stepped-2 left-of-requires mul-put-2 row-for-requires-2 put-requires-2 add-t30
+    same-length returns enum-known-stepped-3 mul-put-3 row-for-requires-3 put-requires-3 add-t35 same-length-2 returns-2 enum-told
+    same-length-3 returns-3 add-counter loop-less loop-again same-length-4 returns-4)

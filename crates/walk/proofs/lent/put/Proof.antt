@@ -5,7 +5,7 @@ use native.Mathlib.Omega.{arith}
 use borrow.Author.Needs.{needs}
 use denote.Ref.{now}
 use lib.Ieee.{Float}
-use Rattle.walk.specs.Lent.{over, coordinatesOf, parametersOf}
+use Rattle.walk.specs.Lent.{over, coordinateNumbers, parameterNumbers}
 use Rattle.walk.proofs.Lists.{over-twice}
 use Rattle.walk.proofs.lent.put.Statement.{statement}
 use Rattle.walk.proofs.lent.put.Tie as tie
@@ -28,8 +28,8 @@ returns c =
     let p = q .before .before .before .before in
     let s = p .before .before .before in
     let g = s .args in
-    q .put-parameters .ensures ∙ ap (λ (l : List Float). over l (g .at + 3) (parametersOf (g .row))) (p .put-coordinates .ensures)
-    ∙ over-twice (now (g .out)) (g .at) (coordinatesOf (g .row)) (parametersOf (g .row)) (omega (arith, s .pre))
+    q .put-parameters .ensures ∙ ap (λ (l : List Float). over l (g .at + 3) (parameterNumbers (g .row))) (p .put-coordinates .ensures)
+    ∙ over-twice (now (g .out)) (g .at) (coordinateNumbers (g .row)) (parameterNumbers (g .row)) (omega (arith, s .pre))
 
 pub put-spec : {M : Type 1} → statement M
 put-spec = tie.close (tie.spec put-coordinates-requires add-put-parameters put-parameters-requires same-length returns)

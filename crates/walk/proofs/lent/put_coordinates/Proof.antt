@@ -3,7 +3,7 @@ use native.Mathlib.Numerals.{towards-suc}
 use denote.Ref.{now}
 use lib.ListN.{length-set}
 use lib.Seq.{sets-eq}
-use Rattle.walk.specs.Lent.{coordinatesOf}
+use Rattle.walk.specs.Lent.{coordinateNumbers}
 use Rattle.walk.proofs.lent.put_coordinates.Statement.{statement}
 use Rattle.walk.proofs.lent.put_coordinates.Tie as tie
 
@@ -35,19 +35,7 @@ same-length : tie.Need-same-length
 same-length c = simp length-set
 
 returns : tie.Need-returns
-returns c = simp towards-suc (simp towards-suc at (sets-eq (coordinatesOf (c .args .row)) (now (c .args .out)) (c .args .at) (c .pre)))
+returns c = simp towards-suc (simp towards-suc at (sets-eq (coordinateNumbers (c .args .row)) (now (c .args .out)) (c .args .at) (c .pre)))
 
 pub put-coordinates-spec : {M : Type 1} → statement M
-put-coordinates-spec =
-    tie.close
-    (tie.spec
-    mul-out
-    slice-write-out
-    add-out
-    mul-out-2
-    slice-write-out-2
-    add-out-2
-    mul-out-3
-    slice-write-out-3
-    same-length
-    returns)
+put-coordinates-spec = tie.close (tie.spec mul-out slice-write-out add-out mul-out-2 slice-write-out-2 add-out-2 mul-out-3 slice-write-out-3 same-length returns)

@@ -3,7 +3,7 @@ use native.Mathlib.Numerals.{towards-suc}
 use denote.Ref.{now}
 use lib.ListN.{length-set}
 use lib.Seq.{sets-eq}
-use Rattle.walk.specs.Lent.{parametersOf}
+use Rattle.walk.specs.Lent.{parameterNumbers}
 use Rattle.walk.proofs.lent.put_parameters.Statement.{statement}
 use Rattle.walk.proofs.lent.put_parameters.Tie as tie
 
@@ -44,22 +44,10 @@ same-length : tie.Need-same-length
 same-length c = simp length-set
 
 returns : tie.Need-returns
-returns c = simp towards-suc (simp towards-suc at (sets-eq (parametersOf (c .args .row)) (now (c .args .out)) (c .args .at) (c .pre)))
+returns c = simp towards-suc (simp towards-suc at (sets-eq (parameterNumbers (c .args .row)) (now (c .args .out)) (c .args .at) (c .pre)))
 
 pub put-parameters-spec : {M : Type 1} → statement M
 put-parameters-spec =
     tie.close
-    (tie.spec
-    mul-out
-    slice-write-out
-    add-out
-    mul-out-2
-    slice-write-out-2
-    add-out-2
-    mul-out-3
-    slice-write-out-3
-    add-out-3
-    mul-out-4
-    slice-write-out-4
-    same-length
-    returns)
+    (tie.spec mul-out slice-write-out add-out mul-out-2 slice-write-out-2 add-out-2 mul-out-3 slice-write-out-3 add-out-3 mul-out-4
+    slice-write-out-4 same-length returns)

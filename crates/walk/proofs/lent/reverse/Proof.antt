@@ -82,20 +82,5 @@ returns c =
 pub reverse-spec : {M : Type 1} → statement M
 reverse-spec =
     tie.close
-    (tie.spec
-    Inv-loop
-    μ-loop
-    loop-holds
-    sub-j
-    sub-j-2
-    row-of-requires
-    row-of-requires-2
-    mul-put
-    put-requires
-    mul-put-2
-    put-requires-2
-    add-i
-    loop-less
-    loop-again
-    same-length
-    returns)
+    (tie.spec Inv-loop μ-loop loop-holds sub-j sub-j-2 row-of-requires row-of-requires-2 mul-put put-requires mul-put-2 put-requires-2 add-i
+    loop-less loop-again same-length returns)

@@ -37,13 +37,4 @@ returns-2 c =
     rw (le-leb leastPoints _ (u .before .before .if1 .left)) (ap (outcome _) (u .clear2 .ensures))
 
 pub finish-spec : {M : Type 1} → statement M
-finish-spec =
-    tie.close
-    (tie.spec
-    clear-requires
-    same-length
-    returns
-    mul-clear
-    clear-requires-2
-    same-length-2
-    returns-2)
+finish-spec = tie.close (tie.spec clear-requires same-length returns mul-clear clear-requires-2 same-length-2 returns-2)

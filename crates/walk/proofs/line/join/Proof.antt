@@ -56,19 +56,5 @@ returns c =
 pub join-spec : {M : Type 1} → statement M
 join-spec =
     tie.close
-    (tie.spec
-    add-count
-    add-count-2
-    mul-used
-    mul-from
-    slice-relend-prefix-reverse
-    slice-aggregate-reverse
-    reverse-requires
-    mul-reverse
-    sub-reverse
-    part-reverse-start
-    part-reverse-end
-    add-reverse
-    reverse-requires-2
-    same-length
-    returns)
+    (tie.spec add-count add-count-2 mul-used mul-from slice-relend-prefix-reverse slice-aggregate-reverse reverse-requires mul-reverse
+    sub-reverse part-reverse-start part-reverse-end add-reverse reverse-requires-2 same-length returns)

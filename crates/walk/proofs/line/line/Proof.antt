@@ -171,28 +171,6 @@ returns-2 c =
 pub line-spec : {M : Type 1} → statement M
 line-spec =
     tie.close
-    (tie.spec
-    row-for-requires
-    put-requires
-    sub-half
-    part-half-start
-    part-half-end
-    half-requires
-    add-finish
-    finish-requires
-    same-length
-    returns
-    add-behind
-    mul-behind
-    mul-half
-    sub-half-2
-    part-half-start-2
-    part-half-end-2
-    half-requires-2
-    join-requires
-    add-count
-    add-count-2
-    backward-code-requires
-    finish-requires-2
-    same-length-2
-    returns-2)
+    (tie.spec row-for-requires put-requires sub-half part-half-start part-half-end half-requires add-finish finish-requires same-length
+    returns add-behind mul-behind mul-half sub-half-2 part-half-start-2 part-half-end-2 half-requires-2 join-requires add-count add-count-2
+    backward-code-requires finish-requires-2 same-length-2 returns-2)

@@ -89,17 +89,5 @@ returns-5 c =
 pub call-fitness-spec : {M : Type 1} → statement M
 call-fitness-spec =
     tie.close
-    (tie.spec
-    pair-fitness-requires
-    enum-told
-    enum-told-2
-    returns
-    guess-finite-requires
-    returns-2
-    cap-fits-requires
-    returns-3
-    mul-holds
-    add-holds
-    holds-requires
-    returns-4
-    returns-5)
+    (tie.spec pair-fitness-requires enum-told enum-told-2 returns guess-finite-requires returns-2 cap-fits-requires returns-3 mul-holds
+    add-holds holds-requires returns-4 returns-5)

@@ -36,14 +36,4 @@ unfolding guessFinite
 returns-4 c = rw (← c .before .is-finite .ensures, c .if1 .left)
 
 pub guess-finite-spec : {M : Type 1} → statement M
-guess-finite-spec =
-    tie.close
-    (tie.spec
-    is-finite-requires
-    is-finite-requires-2
-    is-finite-requires-3
-    is-finite-requires-4
-    returns
-    returns-2
-    returns-3
-    returns-4)
+guess-finite-spec = tie.close (tie.spec is-finite-requires is-finite-requires-2 is-finite-requires-3 is-finite-requires-4 returns returns-2 returns-3 returns-4)

@@ -67,17 +67,5 @@ returns-2 c =
 pub trace-spec : {M : Type 1} → statement M
 trace-spec =
     tie.close
-    (tie.spec
-    call-fitness-requires
-    enum-known-fitness
-    enum-told
-    mul-room
-    add-room
-    mul-room-2
-    slice-relend-prefix-walk-from
-    slice-aggregate-walk-from
-    walk-from-requires
-    same-length
-    returns
-    same-length-2
-    returns-2)
+    (tie.spec call-fitness-requires enum-known-fitness enum-told mul-room add-room mul-room-2 slice-relend-prefix-walk-from
+    slice-aggregate-walk-from walk-from-requires same-length returns same-length-2 returns-2)

@@ -115,20 +115,5 @@ returns-3 c =
 pub walk-from-spec : {M : Type 1} → statement M
 walk-from-spec =
     tie.close
-    (tie.spec
-    meet-requires
-    enum-known-seed
-    enum-told
-    clear-requires
-    same-length
-    returns
-    tangent-requires
-    enum-known-t
-    enum-told-2
-    clear-requires-2
-    same-length-2
-    returns-2
-    eval-point-requires
-    line-requires
-    same-length-3
-    returns-3)
+    (tie.spec meet-requires enum-known-seed enum-told clear-requires same-length returns tangent-requires enum-known-t enum-told-2
+    clear-requires-2 same-length-2 returns-2 eval-point-requires line-requires same-length-3 returns-3)
