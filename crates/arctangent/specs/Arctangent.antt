@@ -2,8 +2,10 @@
 -- give; `tiny` and the literals by the bits of their decimals. Definitions only.
 use Prim.Native.Nat.{ℕ, _+_, _*_, _/_, _^_}
 use mathlib.Core.Bool.{_&&_}
+use mathlib.Core.List.{[], _∷_}
 use lib.Bits.{bitAnd, bitOr}
 use lib.Dec.{ltb, leb, eqb}
+use lib.ListN.{getD}
 use lib.Ieee.{Float, binary64, toBits, neg, isNan}
 use Rattle.loops.specs.Loop.{pick}
 use Rattle.number.specs.Operators.{_⊕_, _⊖_, _⊗_, _⊘_, bits}
@@ -15,64 +17,20 @@ abbrev pub three-halves : Float
 three-halves = bits 0x3ff8000000000000
 
 -- atanhi[] of s_atan.c: the arc tangents of 0.5, 1, 1.5 and infinity
-abbrev pub atanhi0 : Float
-atanhi0 = bits 0x3fddac670561bb4f
-
-abbrev pub atanhi1 : Float
-atanhi1 = bits 0x3fe921fb54442d18
-
-abbrev pub atanhi2 : Float
-atanhi2 = bits 0x3fef730bd281f69b
-
-abbrev pub atanhi3 : Float
-atanhi3 = bits 0x3ff921fb54442d18
+abbrev pub atanhi : ℕ → Float
+atanhi i = bits (getD (0x3fddac670561bb4f ∷ 0x3fe921fb54442d18 ∷ 0x3fef730bd281f69b ∷ 0x3ff921fb54442d18 ∷ []) i 0)
 
 -- atanlo[]: what is left of them
-abbrev pub atanlo0 : Float
-atanlo0 = bits 0x3c7a2b7f222f65e2
-
-abbrev pub atanlo1 : Float
-atanlo1 = bits 0x3c81a62633145c07
-
-abbrev pub atanlo2 : Float
-atanlo2 = bits 0x3c7007887af0cbbd
-
-abbrev pub atanlo3 : Float
-atanlo3 = bits 0x3c91a62633145c07
+abbrev pub atanlo : ℕ → Float
+atanlo i = bits (getD (0x3c7a2b7f222f65e2 ∷ 0x3c81a62633145c07 ∷ 0x3c7007887af0cbbd ∷ 0x3c91a62633145c07 ∷ []) i 0)
 
 -- aT[]
-abbrev pub aT0 : Float
-aT0 = bits 0x3fd555555555550d
-
-abbrev pub aT1 : Float
-aT1 = bits 0xbfc999999998ebc4
-
-abbrev pub aT2 : Float
-aT2 = bits 0x3fc24924920083ff
-
-abbrev pub aT3 : Float
-aT3 = bits 0xbfbc71c6fe231671
-
-abbrev pub aT4 : Float
-aT4 = bits 0x3fb745cdc54c206e
-
-abbrev pub aT5 : Float
-aT5 = bits 0xbfb3b0f2af749a6d
-
-abbrev pub aT6 : Float
-aT6 = bits 0x3fb10d66a0d03d51
-
-abbrev pub aT7 : Float
-aT7 = bits 0xbfadde2d52defd9a
-
-abbrev pub aT8 : Float
-aT8 = bits 0x3fa97b4b24760deb
-
-abbrev pub aT9 : Float
-aT9 = bits 0xbfa2b4442c6a6c2f
-
-abbrev pub aT10 : Float
-aT10 = bits 0x3f90ad3ae322da11
+abbrev pub aT : ℕ → Float
+aT i =
+    bits (getD (
+    0x3fd555555555550d ∷ 0xbfc999999998ebc4 ∷ 0x3fc24924920083ff ∷ 0xbfbc71c6fe231671 ∷ 0x3fb745cdc54c206e ∷ 0xbfb3b0f2af749a6d
+    ∷ 0x3fb10d66a0d03d51 ∷ 0xbfadde2d52defd9a ∷ 0x3fa97b4b24760deb ∷ 0xbfa2b4442c6a6c2f ∷ 0x3f90ad3ae322da11 ∷ []
+    ) i 0)
 
 -- tiny, pi_o_4, pi_o_2, pi and pi_lo of e_atan2.c, and its 3.0, -3.0, -1.0
 abbrev pub tiny : Float
@@ -101,11 +59,11 @@ minus-one = bits 0xbff0000000000000
 
 -- s1 = z*(aT[0]+w*(aT[2]+w*(aT[4]+w*(aT[6]+w*(aT[8]+w*aT[10]))))), for w = z*z
 abbrev pub evens : Float → Float → Float
-evens z w = z ⊗ (aT0 ⊕ w ⊗ (aT2 ⊕ w ⊗ (aT4 ⊕ w ⊗ (aT6 ⊕ w ⊗ (aT8 ⊕ w ⊗ aT10)))))
+evens z w = z ⊗ (aT 0 ⊕ w ⊗ (aT 2 ⊕ w ⊗ (aT 4 ⊕ w ⊗ (aT 6 ⊕ w ⊗ (aT 8 ⊕ w ⊗ aT 10)))))
 
 -- s2 = w*(aT[1]+w*(aT[3]+w*(aT[5]+w*(aT[7]+w*aT[9]))))
 abbrev pub odds : Float → Float
-odds w = w ⊗ (aT1 ⊕ w ⊗ (aT3 ⊕ w ⊗ (aT5 ⊕ w ⊗ (aT7 ⊕ w ⊗ aT9))))
+odds w = w ⊗ (aT 1 ⊕ w ⊗ (aT 3 ⊕ w ⊗ (aT 5 ⊕ w ⊗ (aT 7 ⊕ w ⊗ aT 9))))
 
 -- s1 + s2, for z = x*x
 abbrev pub seriesOf : Float → Float
@@ -113,7 +71,7 @@ seriesOf x = evens (x ⊗ x) (x ⊗ x ⊗ (x ⊗ x)) ⊕ odds (x ⊗ x ⊗ (x �
 
 -- |x| >= 2^66: x + x for a NaN, else a right angle
 unfoldable pub farOf : Float → ℕ → Float
-farOf x sign = pick (isNan x) (x ⊕ x) (pick (eqb sign 0) (atanhi3 ⊕ atanlo3) (neg atanhi3 ⊖ atanlo3))
+farOf x sign = pick (isNan x) (x ⊕ x) (pick (eqb sign 0) (atanhi 3 ⊕ atanlo 3) (neg (atanhi 3) ⊖ atanlo 3))
 
 -- atanhi[id] - ((x*(s1+s2) - atanlo[id]) - x)
 unfoldable pub fromKnown : Float → Float → Float → Float
@@ -122,10 +80,10 @@ fromKnown hi lo x = hi ⊖ (x ⊗ seriesOf x ⊖ lo ⊖ x)
 -- the cases id = 0 to 3, for t = |x| of high word ix: below 11/16, 19/16, 39/16, and above
 unfoldable pub foldedOf : Float → ℕ → Float
 foldedOf t ix =
-    pick (ltb ix 0x3fe60000) (fromKnown atanhi0 atanlo0 ((two ⊗ t ⊖ one) ⊘ (two ⊕ t)))
-    (pick (ltb ix 0x3ff30000) (fromKnown atanhi1 atanlo1 ((t ⊖ one) ⊘ (t ⊕ one)))
-    (pick (ltb ix 0x40038000) (fromKnown atanhi2 atanlo2 ((t ⊖ three-halves) ⊘ (one ⊕ three-halves ⊗ t)))
-    (fromKnown atanhi3 atanlo3 (minus-one ⊘ t))))
+    pick (ltb ix 0x3fe60000) (fromKnown (atanhi 0) (atanlo 0) ((two ⊗ t ⊖ one) ⊘ (two ⊕ t)))
+    (pick (ltb ix 0x3ff30000) (fromKnown (atanhi 1) (atanlo 1) ((t ⊖ one) ⊘ (t ⊕ one)))
+    (pick (ltb ix 0x40038000) (fromKnown (atanhi 2) (atanlo 2) ((t ⊖ three-halves) ⊘ (one ⊕ three-halves ⊗ t)))
+    (fromKnown (atanhi 3) (atanlo 3) (minus-one ⊘ t))))
 
 -- atan(x). `huge + x > one` is true of the small x
 unfoldable pub atanOf : Float → Float

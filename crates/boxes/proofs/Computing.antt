@@ -5,8 +5,7 @@ use Rattle.number.specs.Helpers.{absOf, maxOf, minOf, numberFit}
 use Rattle.groups.specs.Groups.{countFits, holdsOf}
 use Rattle.geometry.specs.Tolerance.{toleranceFit}
 use Rattle.geometry.specs.Point.{pointOf, pointFit}
-use Rattle.boxes.specs.Box.{boxesApart}
-use Rattle.boxes.specs.Bounds.{pointBox, coverOf, boundsOf}
+use Rattle.boxes.specs.Bounds.{boxesApart, pointBox, coverOf, boundsOf}
 use Rattle.boxes.specs.Segment.{clipOf, segmentMeetsBox}
 use Rattle.boxes.specs.Crosses.{grownOf, someSegment, runCrosses, someRun, crossesOf}
 use Rattle.boxes.specs.Crossing.{sidesFit, boxFit, someUnfit, crossingFitness, crossingOf}

@@ -21,8 +21,7 @@ use Rattle.refusal.specs.declared.Verdict.the-variants as verdict
 use Rattle.refusal.proofs.Laws.{number-positive}
 use Rattle.refusal.proofs.Order.{asked-held, first-passed}
 use Rattle.boxes.specs.declared.boxtree.Aabb.{Aabb}
-use Rattle.boxes.specs.Box.{boxesApart}
-use Rattle.boxes.specs.Bounds.{boundsOf}
+use Rattle.boxes.specs.Bounds.{boxesApart, boundsOf}
 use Rattle.boxes.specs.Crosses.{segmentMeets, someSegment, runCrosses, runLength, runsOf, runStart, runPoints, runAt, someRun, grownOf, crossesOf}
 use Rattle.boxes.specs.declared.crossing.Crossed.{Crossed}
 use Rattle.boxes.specs.declared.crossing.Crossed.the-variants.{Yes, No, Refused}

@@ -10,8 +10,7 @@ use Rattle.groups.specs.Groups.{width}
 use Rattle.geometry.specs.declared.tolerance.Tolerance.{Tolerance}
 use Rattle.boxes.specs.declared.boxtree.Aabb.{Aabb}
 use Rattle.boxes.specs.declared.crossing.Crossed.the-variants.{No}
-use Rattle.boxes.specs.Box.{boxesApart}
-use Rattle.boxes.specs.Bounds.{boundsOf}
+use Rattle.boxes.specs.Bounds.{boxesApart, boundsOf}
 use Rattle.boxes.specs.Crosses.{grownOf, segmentMeets}
 use Rattle.boxes.specs.Crossing.{crossingOf}
 use Rattle.boxes.proofs.Computing.{computing}

@@ -11,8 +11,7 @@ use Rattle.geometry.specs.Tolerance.{toleranceFit}
 use Rattle.geometry.specs.declared.tolerance.Tolerance.{Tolerance}
 use Rattle.geometry.specs.Point.{pointFit}
 use Rattle.boxes.specs.declared.boxtree.Aabb.{Aabb}
-use Rattle.boxes.specs.Box.{boxesApart}
-use Rattle.boxes.specs.Bounds.{boundsOf}
+use Rattle.boxes.specs.Bounds.{boxesApart, boundsOf}
 use Rattle.boxes.specs.Segment.{segmentMeetsBox}
 use Rattle.boxes.specs.Crosses.{runLength, runStart, runPoints}
 use Rattle.boxes.specs.Crossing.{boxFit}

@@ -11,8 +11,7 @@ use Rattle.groups.specs.Groups.{width, fromGroup}
 use Rattle.groups.specs.Row.{pointAt}
 use Rattle.geometry.specs.Point.{pointOf}
 use Rattle.boxes.specs.declared.boxtree.Aabb.{Aabb}
-use Rattle.boxes.specs.Box.{boxesApart}
-use Rattle.boxes.specs.Bounds.{boundsOf}
+use Rattle.boxes.specs.Bounds.{boxesApart, boundsOf}
 use Rattle.boxes.specs.Segment.{segmentMeetsBox}
 
 -- "8000 times confusion": 8.0 * 1000.0 * confusion

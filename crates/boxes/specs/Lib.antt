@@ -1,4 +1,3 @@
-pub mod Box
 pub mod Bounds
 pub mod Segment
 pub mod Crosses

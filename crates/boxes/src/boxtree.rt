@@ -1,6 +1,6 @@
 use geometry::Point3D;
 ghost use mathlib.Core.Path.{_≡_};
-ghost use Rattle.boxes.specs.Box.{apartOn, boxesApart};
+ghost use Rattle.boxes.specs.Bounds.{apartOn, boxesApart};
 
 // A box with sides along the axes: the Rust's six numbers as two corners.
 pub struct Aabb {

@@ -36,9 +36,8 @@ use Rattle.meeting.specs.declared.newton.Met.the-variants.{At, Nothing}
 use Rattle.meeting.specs.declared.newton.Trial.{Trial}
 use Rattle.meeting.specs.declared.newton.Trial.the-variants as trial
 use Rattle.meeting.specs.declared.newton.Round.the-variants as round
-use Rattle.meeting.specs.Parameters.{parameterOf, withParameter}
+use Rattle.meeting.specs.Correction.{parameterOf, withParameter, residualOf, correctionOf, allShifted, shiftedOf}
 use Rattle.patch.specs.Located.{pointA, pointB}
-use Rattle.meeting.specs.Correction.{residualOf, correctionOf, allShifted, shiftedOf}
 use Rattle.meeting.specs.Newton.{nearOf, trialBody, mostTrials, noTrial, trialsOf, lastTest, afterTrials, afterSolve, newtonRound}
 use Rattle.meeting.specs.Newton.{mostRounds, goingOn, roundBody, newtonOf, meetOf, meetInPlaneOf, landOf}
 use Rattle.meeting.specs.Intersection.{IsIntersection, windowOf}

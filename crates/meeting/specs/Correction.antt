@@ -1,10 +1,11 @@
 -- A correction of Newton's method in `meet` and `land` of marching.rs. Definitions only.
-use mathlib.Core.List.{List, [], _∷_}
 use Prim.Native.Nat.{ℕ}
-use lib.Dec.{ltb}
-use lib.ListN.{getD}
+use lib.Dec.{eqb, ltb}
 use lib.Ieee.{Float, neg}
 use Rattle.loops.specs.Loop.{pick}
+use Rattle.patch.specs.declared.patch.Parameters.{Parameters}
+use mathlib.Core.List.{List, [], _∷_}
+use lib.ListN.{getD}
 use Rattle.number.specs.Operators.{bits, _⊕_, _⊗_}
 use Rattle.number.specs.Helpers.{sumStart}
 use Rattle.geometry.specs.declared.vector.Vector3D.{Vector3D}
@@ -12,7 +13,6 @@ use Rattle.geometry.specs.declared.point.Point3D.{Point3D}
 use Rattle.geometry.specs.Vector.{vectorOf, dotOf, negOf}
 use Rattle.geometry.specs.Point.{differenceOf}
 use Rattle.patch.specs.declared.patch.Patch.{Patch}
-use Rattle.patch.specs.declared.patch.Parameters.{Parameters}
 use Rattle.analytic.specs.Surface.{evalD1}
 use Rattle.patch.specs.Located.{pointA, pointB}
 use Rattle.solve.specs.declared.Solution3.{Solution3}
@@ -28,7 +28,23 @@ use Rattle.meeting.specs.declared.correction.Residual.{Residual}
 use Rattle.meeting.specs.declared.correction.Columns.{Columns}
 use Rattle.meeting.specs.declared.correction.Correction.{Correction}
 use Rattle.meeting.specs.declared.correction.Correction.the-variants.{By, Singular}
-use Rattle.meeting.specs.Parameters.{ofFour, parameterOf, withParameter}
+
+-- the k-th of four, 0 to 3; an index above 3 counts as 3
+abbrev pub ofFour : {A : Type 0} → ℕ → A → A → A → A → A
+ofFour k a b c d = pick (eqb k 0) a (pick (eqb k 1) b (pick (eqb k 2) c d))
+
+-- the Rust's x[k] of x = [u1, v1, u2, v2]
+unfoldable pub parameterOf : Parameters → ℕ → Float
+parameterOf x k = ofFour k (x .u1) (x .v1) (x .u2) (x .v2)
+
+-- x with x[k] = value
+unfoldable pub withParameter : Parameters → ℕ → Float → Parameters
+withParameter x k value =
+    ofFour k
+    (record { u1 = value; v1 = x .v1; u2 = x .u2; v2 = x .v2 })
+    (record { u1 = x .u1; v1 = value; u2 = x .u2; v2 = x .v2 })
+    (record { u1 = x .u1; v1 = x .v1; u2 = value; v2 = x .v2 })
+    (record { u1 = x .u1; v1 = x .v1; u2 = x .u2; v2 = value })
 
 -- "plane offset": (pa - origin) . normal, and 0 without a plane
 unfoldable pub offsetOf : Target → Point3D → Float

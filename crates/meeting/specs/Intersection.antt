@@ -8,7 +8,7 @@ use Rattle.patch.specs.declared.patch.Patch.{Patch}
 use Rattle.patch.specs.declared.patch.Parameters.{Parameters}
 use Rattle.patch.specs.declared.patch.Window.{Window}
 use Rattle.patch.specs.Patch.{insideOf}
-use Rattle.meeting.specs.Parameters.{ofFour}
+use Rattle.meeting.specs.Correction.{ofFour}
 use Rattle.patch.specs.Located.{pointA, pointB}
 
 -- every parameter inside its window where that has no turn mark, and the computed gap of A's and B's points at most confusion

@@ -1,4 +1,3 @@
-pub mod Parameters
 pub mod Correction
 pub mod Newton
 pub mod Intersection

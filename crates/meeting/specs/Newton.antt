@@ -23,8 +23,7 @@ use Rattle.meeting.specs.declared.newton.Trial.{Trial}
 use Rattle.meeting.specs.declared.newton.Trial.the-variants as trial
 use Rattle.meeting.specs.declared.newton.Round.{Round}
 use Rattle.meeting.specs.declared.newton.Round.the-variants as round
-use Rattle.meeting.specs.Parameters.{withParameter}
-use Rattle.meeting.specs.Correction.{residualOf, correctionOf, shiftedOf}
+use Rattle.meeting.specs.Correction.{withParameter, residualOf, correctionOf, shiftedOf}
 
 -- gap and plane offset at most a bound; "Both tests also ask that every parameter lie inside its window where that has no turn mark"
 unfoldable pub nearOf : Patch → Patch → Residual → Float → Bool

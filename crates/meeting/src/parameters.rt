@@ -1,7 +1,7 @@
 // One of the four parameters by its index: u1, v1, u2, v2; an index above 3 counts as 3.
 use patch::Parameters;
 ghost use mathlib.Core.Path.{_≡_};
-ghost use Rattle.meeting.specs.Parameters.{parameterOf, withParameter};
+ghost use Rattle.meeting.specs.Correction.{parameterOf, withParameter};
 
 // Parameter k.
 pub(crate) fn parameter(x: Parameters, k: usize) -> f64

@@ -21,7 +21,7 @@ use Rattle.patch.specs.declared.patch.Parameters.{Parameters}
 use Rattle.patch.specs.Located.{pointA}
 use Rattle.meeting.specs.Intersection.{IsIntersection}
 use Rattle.step.specs.Step.{stepOf}
-use Rattle.walk.specs.Half.{Half, Halfway, firstWalker, withoutLast, afterStep, halfBody, halfSpent, halfOf}
+use Rattle.walk.specs.Line.{Half, Halfway, firstWalker, withoutLast, afterStep, halfBody, halfSpent, halfOf}
 use Rattle.step.specs.Closing.{firstStride}
 use Rattle.step.specs.declared.step.Stepped.{Stepped}
 use Rattle.step.specs.declared.step.Stepped.the-variants.{Onward, Closed, Edge, Ended}

@@ -17,8 +17,7 @@ use Rattle.patch.specs.declared.patch.Patch.{Patch}
 use Rattle.patch.specs.declared.patch.Parameters.{Parameters}
 use Rattle.meeting.specs.Intersection.{IsIntersection}
 use Rattle.certificate.specs.Passes.{closingChord}
-use Rattle.walk.specs.Half.{halfOf}
-use Rattle.walk.specs.Line.{Line, forward, backward, lineOf}
+use Rattle.walk.specs.Line.{halfOf, Line, forward, backward, lineOf}
 use Rattle.passing.proofs.Chains.{All, all-append, all-reversed, Linked, linked-at, linked-join, linked-reversed}
 use Rattle.passing.proofs.Halves.{Near, near-swap, Ends, left-open, came-round, HalfFine, half-fine}
 

@@ -23,7 +23,7 @@ use Rattle.step.specs.Step.{stepOf}
 use Rattle.step.specs.Closing.{firstStride}
 use Rattle.step.proofs.Steps.{SteppedFine, step-fine}
 use Rattle.walk.specs.Lent.{placed, rowFor, ownRow, rowsOf}
-use Rattle.walk.specs.Half.{Half, Halfway, firstWalker, withoutLast, afterStep, halfBody, halfSpent, halfFrom, halfOf, Written}
+use Rattle.walk.specs.Line.{Half, Halfway, firstWalker, withoutLast, afterStep, halfBody, halfSpent, halfFrom, halfOf, Written}
 use Rattle.walk.proofs.Rows.{length-put, pushed, popped}
 
 -- the half that the loop's first values begin

@@ -16,7 +16,7 @@ use Rattle.geometry.specs.declared.tolerance.Tolerance.{Tolerance}
 use Rattle.patch.specs.declared.patch.Patch.{Patch}
 use Rattle.patch.specs.declared.patch.Parameters.{Parameters}
 use Rattle.walk.specs.Lent.{placed, reversedOf, joinedOf, rowsOf}
-use Rattle.walk.specs.Half.{Half, halfOf, Written}
+use Rattle.walk.specs.Line.{Half, halfOf, Written}
 use Rattle.walk.specs.Line as line
 use Rattle.walk.specs.Trace.{room, finishedOf, settled}
 use Rattle.walk.proofs.Lists.{backFrom, back-from, length-from, part-length}

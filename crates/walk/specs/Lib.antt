@@ -1,4 +1,3 @@
-pub mod Half
-pub mod Lent
 pub mod Line
+pub mod Lent
 pub mod Trace

@@ -17,7 +17,7 @@ ghost use Rattle.loops.specs.Loop.{pick};
 ghost use Rattle.groups.specs.Groups.{width};
 ghost use Rattle.patch.specs.Located.{pointA};
 ghost use Rattle.walk.specs.Lent.{ownRow};
-ghost use Rattle.walk.specs.Half.{firstWalker, halfOf, Written};
+ghost use Rattle.walk.specs.Line.{firstWalker, halfOf, Written};
 ghost use Rattle.walk.specs.Trace.{mostSteps};
 
 // How many points a half holds, and whether it ended on the start.

@@ -1,5 +1,5 @@
 use borrow.Author.Needs.{needs}
-use Rattle.boxes.specs.Box.{boxesApart}
+use Rattle.boxes.specs.Bounds.{boxesApart}
 use Rattle.boxes.proofs.boxtree.boxes_apart.Statement.{statement}
 use Rattle.boxes.proofs.boxtree.boxes_apart.Tie as tie
 

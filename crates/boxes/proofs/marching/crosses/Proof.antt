@@ -5,8 +5,7 @@ use Prim.Native.Nat.{ℕ}
 use lib.Ieee.{Float}
 use borrow.Author.Needs.{needs}
 use Rattle.boxes.specs.declared.boxtree.Aabb.{Aabb}
-use Rattle.boxes.specs.Box.{boxesApart}
-use Rattle.boxes.specs.Bounds.{boundsOf}
+use Rattle.boxes.specs.Bounds.{boxesApart, boundsOf}
 use Rattle.boxes.specs.Crosses.{grownOf, someRun, crossesOf}
 use Rattle.boxes.proofs.marching.crosses.Statement.{statement}
 use Rattle.boxes.proofs.marching.crosses.Tie as tie

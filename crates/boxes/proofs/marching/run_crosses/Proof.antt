@@ -5,8 +5,7 @@ use Prim.Native.Nat.{ℕ}
 use lib.Ieee.{Float}
 use borrow.Author.Needs.{needs}
 use Rattle.boxes.specs.declared.boxtree.Aabb.{Aabb}
-use Rattle.boxes.specs.Box.{boxesApart}
-use Rattle.boxes.specs.Bounds.{boundsOf}
+use Rattle.boxes.specs.Bounds.{boxesApart, boundsOf}
 use Rattle.boxes.specs.Crosses.{someSegment, runCrosses}
 use Rattle.boxes.proofs.marching.run_crosses.Statement.{statement}
 use Rattle.boxes.proofs.marching.run_crosses.Tie as tie

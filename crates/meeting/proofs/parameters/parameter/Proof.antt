@@ -1,5 +1,5 @@
 use borrow.Author.Tests.{eq-eqb, ne-eqb}
-use Rattle.meeting.specs.Parameters.{parameterOf}
+use Rattle.meeting.specs.Correction.{parameterOf}
 use Rattle.meeting.proofs.parameters.parameter.Statement.{statement}
 use Rattle.meeting.proofs.parameters.parameter.Tie as tie
 

@@ -1,5 +1,5 @@
 use borrow.Author.Tests.{eq-eqb, ne-eqb}
-use Rattle.meeting.specs.Parameters.{withParameter}
+use Rattle.meeting.specs.Correction.{withParameter}
 use Rattle.meeting.proofs.parameters.with_parameter.Statement.{statement}
 use Rattle.meeting.proofs.parameters.with_parameter.Tie as tie
 

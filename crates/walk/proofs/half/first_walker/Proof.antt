@@ -1,5 +1,5 @@
 use borrow.Author.Needs.{needs}
-use Rattle.walk.specs.Half.{firstWalker}
+use Rattle.walk.specs.Line.{firstWalker}
 use Rattle.walk.proofs.half.first_walker.Statement.{statement}
 use Rattle.walk.proofs.half.first_walker.Tie as tie
 

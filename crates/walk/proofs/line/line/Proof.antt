@@ -11,8 +11,7 @@ use Rattle.loops.specs.Loop.{pick}
 use Rattle.groups.specs.Groups.{width}
 use Rattle.geometry.specs.declared.point.Point3D.{Point3D}
 use Rattle.walk.specs.Lent.{rowFor, ownRow}
-use Rattle.walk.specs.Half.{Half, halfOf}
-use Rattle.walk.specs.Line.{forward, backward}
+use Rattle.walk.specs.Line.{Half, halfOf, forward, backward}
 use Rattle.walk.specs.Trace.{mostSteps, settled}
 use Rattle.walk.proofs.Lists.{backFrom}
 use Rattle.walk.proofs.Lines.{Started, Forward, Both, started, needs-forward, forward-half, needs-backward, backward-half, settled-forward, settled-both, closed-forward, both-halves}
