@@ -15,14 +15,14 @@ use Rattle.solve.specs.declared.Solved4.{Solved4}
 use Rattle.solve.specs.declared.Solved4.the-variants as solved4
 
 -- n numbers of the input, from at on
-abbrev pub rowOf : ℕ → ℕ → List Float → List Float
-rowOf zero at s = []
-rowOf (suc n) at s = getD s at nan ∷ rowOf n (at + 1) s
+abbrev pub numbersFrom : ℕ → ℕ → List Float → List Float
+numbersFrom zero at s = []
+numbersFrom (suc n) at s = getD s at nan ∷ numbersFrom n (at + 1) s
 
 -- k rows of n numbers, from at on
-abbrev pub rowsOf : ℕ → ℕ → ℕ → List Float → List (List Float)
-rowsOf zero n at s = []
-rowsOf (suc k) n at s = rowOf n at s ∷ rowsOf k n (at + n) s
+abbrev pub matrixFrom : ℕ → ℕ → ℕ → List Float → List (List Float)
+matrixFrom zero n at s = []
+matrixFrom (suc k) n at s = numbersFrom n at s ∷ matrixFrom k n (at + n) s
 
 -- the answer's word, and the output afterwards
 pub record Probed : Type 0 where
@@ -44,7 +44,7 @@ written2 solved2.Singular t = probed 0 t
 
 -- `solve_2x2` of four numbers by rows, two on the right side, tol
 unfoldable pub probe2Of : List Float → List Float → Probed
-probe2Of s t = orShort 7 2 s t (written2 (solve2Of (rowsOf 2 2 0 s) (rowOf 2 4 s) (getD s 6 nan)) t)
+probe2Of s t = orShort 7 2 s t (written2 (solve2Of (matrixFrom 2 2 0 s) (numbersFrom 2 4 s) (getD s 6 nan)) t)
 
 -- 1 and the three unknowns, or 0
 abbrev pub written3 : Solved3 → List Float → Probed
@@ -53,7 +53,7 @@ written3 solved3.Singular t = probed 0 t
 
 -- `solve_3x3`, likewise
 unfoldable pub probe3Of : List Float → List Float → Probed
-probe3Of s t = orShort 13 3 s t (written3 (solve3Of (rowsOf 3 3 0 s) (rowOf 3 9 s) (getD s 12 nan)) t)
+probe3Of s t = orShort 13 3 s t (written3 (solve3Of (matrixFrom 3 3 0 s) (numbersFrom 3 9 s) (getD s 12 nan)) t)
 
 -- 1 and the four unknowns, or 0
 abbrev pub written4 : Solved4 → List Float → Probed
@@ -62,7 +62,7 @@ written4 solved4.Singular t = probed 0 t
 
 -- `solve_4x4`, likewise
 unfoldable pub probe4Of : List Float → List Float → Probed
-probe4Of s t = orShort 21 4 s t (written4 (solve4Of (rowsOf 4 4 0 s) (rowOf 4 16 s) (getD s 20 nan)) t)
+probe4Of s t = orShort 21 4 s t (written4 (solve4Of (matrixFrom 4 4 0 s) (numbersFrom 4 16 s) (getD s 20 nan)) t)
 
 -- by the number of unknowns; 9 where no solver has so many
 unfoldable pub probeOf : ℕ → List Float → List Float → Probed

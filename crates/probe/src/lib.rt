@@ -9,11 +9,11 @@ pub mod surface;
 ghost use mathlib.Core.Path.{_≡_};
 ghost use Prim.Native.Nat.{_+_, _≤_};
 ghost use lib.ListN.{length};
-ghost use Rattle.probe.specs.Probe.{rowOf, probed, probe2Of, probe3Of, probe4Of, probeOf};
+ghost use Rattle.probe.specs.Probe.{numbersFrom, probed, probe2Of, probe3Of, probe4Of, probeOf};
 
 fn row2(input: &[f64], at: usize) -> [f64; 2]
     requires { ⌜ at + 2 ≤ length (now input) ⌝ }
-    ensures { λ r. ⌜ r ≡ rowOf 2 at (now (input .entry)) ⌝ }
+    ensures { λ r. ⌜ r ≡ numbersFrom 2 at (now (input .entry)) ⌝ }
 {
     [input[at], input[at + 1]]
 }
@@ -44,7 +44,7 @@ fn probe_2x2(input: &[f64], output: &mut [f64]) -> u64
 
 fn row3(input: &[f64], at: usize) -> [f64; 3]
     requires { ⌜ at + 3 ≤ length (now input) ⌝ }
-    ensures { λ r. ⌜ r ≡ rowOf 3 at (now (input .entry)) ⌝ }
+    ensures { λ r. ⌜ r ≡ numbersFrom 3 at (now (input .entry)) ⌝ }
 {
     [input[at], input[at + 1], input[at + 2]]
 }
@@ -77,7 +77,7 @@ fn probe_3x3(input: &[f64], output: &mut [f64]) -> u64
 
 fn row4(input: &[f64], at: usize) -> [f64; 4]
     requires { ⌜ at + 4 ≤ length (now input) ⌝ }
-    ensures { λ r. ⌜ r ≡ rowOf 4 at (now (input .entry)) ⌝ }
+    ensures { λ r. ⌜ r ≡ numbersFrom 4 at (now (input .entry)) ⌝ }
 {
     [input[at], input[at + 1], input[at + 2], input[at + 3]]
 }
