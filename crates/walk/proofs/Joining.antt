@@ -88,11 +88,6 @@ module _ (f b : ℕ) (l : List Float) (h : width * (1 + f + b) ≤ length l) whe
   pub joined-first : length (take (width * (1 + f + b)) l) ≡ width * (1 + f + b)
   joined-first = length-take-le (width * (1 + f + b)) l h
 
-  pub joined-second : {p : List Float} → p ≡ reversedOf (1 + f + b) (take (width * (1 + f + b)) l)
-      → length (take (width * (1 + f + b) - width * b) (drop (width * b) (p ++ drop (width * (1 + f + b)) l))) ≡ width * (1 + f)
-  unfolding l₁
-  joined-second ep = ap (λ (z : List Float). length (take (width * (1 + f + b) - width * b) (drop (width * b) (z ++ drop (width * (1 + f + b)) l)))) ep ∙ ap length middle-is ∙ lTS
-
   -- what it begins with
   pub joined-front : {xs ys : List Float} → take (width * b) (drop (width * (1 + f)) l) ≡ ys → take (width * (1 + f)) l ≡ xs
       → take (width * (1 + f + b)) (joinedOf f b l) ≡ reversedOf b ys ++ xs

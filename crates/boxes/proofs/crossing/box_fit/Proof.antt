@@ -1,4 +1,7 @@
+use mathlib.Core.Path.{_≡_, sym, _∙_}
+use mathlib.Core.Bool.{true}
 use borrow.Author.Needs.{needs}
+use Rattle.geometry.specs.Point.{pointFit}
 use Rattle.boxes.specs.Crossing.{boxFit}
 use Rattle.boxes.proofs.crossing.box_fit.Statement.{statement}
 use Rattle.boxes.proofs.crossing.box_fit.Tie as tie
@@ -16,13 +19,17 @@ returns : tie.Need-returns
 unfolding boxFit
 returns c =
     let h = c .before .before in
-    rw (← h .before .before .is-fit .ensures, h .before .if1 .taken, ← h .is-fit2 .ensures, c .before .if2 .taken) (c .sides-fit .ensures)
+    let b = h .before .before .before .args .b in
+    let high : pointFit (b .high) ≡ true = sym (h .is-fit2 .ensures) ∙ c .before .if2 .taken in
+    rw (← h .before .before .is-fit .ensures, h .before .if1 .taken, high) (c .sides-fit .ensures)
 
 returns-2 : tie.Need-returns-2
 unfolding boxFit
 returns-2 c =
     let h = c .before in
-    rw (← h .before .before .is-fit .ensures, h .before .if1 .taken, ← h .is-fit2 .ensures, c .if2 .left)
+    let b = h .before .before .before .args .b in
+    let high : h .is-fit2 .result ≡ pointFit (b .high) = h .is-fit2 .ensures in
+    rw (← h .before .before .is-fit .ensures, h .before .if1 .taken, ← high, c .if2 .left)
 
 returns-3 : tie.Need-returns-3
 unfolding boxFit

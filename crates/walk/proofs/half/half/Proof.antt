@@ -1,5 +1,4 @@
 -- The invariant is `Going`: the buffer holds the points so far, in the order walked.
-use native.Mathlib.Omega.{arith}
 use Prim.Native.Nat.{_-_}
 use borrow.Author.Needs.{needs}
 use Rattle.walk.proofs.Halves.{Going, begun-is, going-start, few-held, fits, few-left, going-on, held, going-ended, going-edge, going-closed, going-spent}

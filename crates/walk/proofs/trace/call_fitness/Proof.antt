@@ -1,7 +1,10 @@
 use mathlib.Core.Path.{_≡_, sym, _∙_}
+use mathlib.Core.Bool.{true, false}
+use Prim.Native.Nat.{_+_, _*_}
 use borrow.Author.Needs.{needs}
 use borrow.Author.Tests.{not-true, not-false}
 use Rattle.refusal.specs.declared.Verdict.the-variants.{Passed}
+use Rattle.groups.specs.Groups.{width, holdsOf}
 use Rattle.patch.specs.Pair.{pairFitness}
 use Rattle.walk.specs.Trace.{callFitness}
 use Rattle.walk.proofs.Calls.{cap-least}
@@ -73,7 +76,8 @@ returns-4 c =
     let t = g .before in
     let finite = not-false (g .guess-finite .result) (k .before .if1 .left) in
     let fits = not-false (k .cap-fits .result) (h .before .if2 .left) in
-    rw (passed t, ← g .guess-finite .ensures, finite, ← k .cap-fits .ensures, fits, ← h .holds .ensures, not-true (h .holds .result) (c .if3 .taken))
+    let few : holdsOf width _ (2 * start t .args .cap + 1) ≡ false = sym (h .holds .ensures) ∙ not-true (h .holds .result) (c .if3 .taken) in
+    rw (passed t, ← g .guess-finite .ensures, finite, ← k .cap-fits .ensures, fits, few)
 
 returns-5 : tie.Need-returns-5
 unfolding callFitness
@@ -84,7 +88,8 @@ returns-5 c =
     let t = g .before in
     let finite = not-false (g .guess-finite .result) (k .before .if1 .left) in
     let fits = not-false (k .cap-fits .result) (h .before .if2 .left) in
-    rw (passed t, ← g .guess-finite .ensures, finite, ← k .cap-fits .ensures, fits, ← h .holds .ensures, not-false (h .holds .result) (c .if3 .left))
+    let enough : holdsOf width _ (2 * start t .args .cap + 1) ≡ true = sym (h .holds .ensures) ∙ not-false (h .holds .result) (c .if3 .left) in
+    rw (passed t, ← g .guess-finite .ensures, finite, ← k .cap-fits .ensures, fits, enough)
 
 pub call-fitness-spec : {M : Type 1} → statement M
 call-fitness-spec =

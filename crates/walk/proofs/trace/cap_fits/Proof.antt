@@ -1,4 +1,3 @@
-use mathlib.Core.Path.{refl}
 use borrow.Author.Tests.{le-leb, lt-leb}
 use Rattle.walk.specs.Trace.{leastSteps, capFits}
 use Rattle.walk.proofs.trace.cap_fits.Statement.{statement}
