@@ -19,7 +19,7 @@ returns : tie.Need-returns
 unfolding boxFit
 returns c =
     let h = c .before .before in
-    let b = h .before .before .before .args .b in
+    let b = h .before .before .before .before .before .args .b in
     let high : pointFit (b .high) ≡ true = sym (h .is-fit2 .ensures) ∙ c .before .if2 .taken in
     rw (← h .before .before .is-fit .ensures, h .before .if1 .taken, high) (c .sides-fit .ensures)
 
@@ -27,7 +27,7 @@ returns-2 : tie.Need-returns-2
 unfolding boxFit
 returns-2 c =
     let h = c .before in
-    let b = h .before .before .before .args .b in
+    let b = h .before .before .before .before .before .args .b in
     let high : h .is-fit2 .result ≡ pointFit (b .high) = h .is-fit2 .ensures in
     rw (← h .before .before .is-fit .ensures, h .before .if1 .taken, ← high, c .if2 .left)
 
