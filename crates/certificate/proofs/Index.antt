@@ -22,15 +22,15 @@ use Rattle.patch.specs.Located.{pointA, pointB}
 use Rattle.patch.specs.Patch.{insideOf}
 use Rattle.patch.proofs.Fitness.{pair-below}
 use Rattle.certificate.specs.Passes.{parametersIn, ClosedAs, claimed-open, forward, backward}
-use Rattle.certificate.specs.Check.{ownOf, chordFits, pointTests, pointVerdict, stopped, pointBody, allPassed, pointsVerdict, claimSo, checkTests, checkOf}
+use Rattle.certificate.specs.Check.{isOwn, ownOf, chordFits, pointTests, pointVerdict, stopped, pointBody, allPassed, pointsVerdict, claimSo, checkTests, checkOf}
 use Rattle.certificate.proofs.Passed.{claimed}
 
 -- point i is named by its own index
-point-below : (a b : Patch) (confusion : Float) (before r : Row) (count closing i : ℕ) → Below i (pointVerdict a b confusion before r count closing i)
+point-below : (a b : Patch) (confusion : Float) (before r : Row) (count closing i : ℕ) → Below i (pointVerdict (isOwn a) a b confusion before r count closing i)
 unfolding pointVerdict
 point-below a b confusion before r count closing i =
     let x = parametersIn r in
-    first-each (Below i) (pointTests a b confusion before r count closing i) (
+    first-each (Below i) (pointTests (isOwn a) a b confusion before r count closing i) (
       asked-below (insideOf a b x) (refusal.OutsideWindow i) i (omega arith),
       λ n. (
         asked-below (ownOf (pointIn r) (pointA a x)) (refusal.NotOwnPoint i) i (omega arith),
@@ -42,11 +42,11 @@ point-below a b confusion before r count closing i =
       ),
     )
 
-points-below : (a b : Patch) (confusion : Float) (rows : ℕ → Row) (count closing : ℕ) → Below count (pointsVerdict a b confusion rows count closing)
+points-below : (a b : Patch) (confusion : Float) (rows : ℕ → Row) (count closing : ℕ) → Below count (pointsVerdict (isOwn a) a b confusion rows count closing)
 unfolding pointsVerdict
 points-below a b confusion rows count closing =
-    searched-keeps-at (pointBody a b confusion rows count closing) allPassed (λ i s. Unit {0}) (Below count) 0 count
-    (λ i s h p. go i (pointVerdict a b confusion (rows (i - 1)) (rows i) count closing i) h (point-below a b confusion (rows (i - 1)) (rows i) count closing i))
+    searched-keeps-at (pointBody (isOwn a) a b confusion rows count closing) allPassed (λ i s. Unit {0}) (Below count) 0 count
+    (λ i s h p. go i (pointVerdict (isOwn a) a b confusion (rows (i - 1)) (rows i) count closing i) h (point-below a b confusion (rows (i - 1)) (rows i) count closing i))
     (λ s p. omega arith) (omega arith) tt tt
   where
     go : (i : ℕ) (v : Verdict) → i < count → Below i v → Kept (λ (s : Unit {0}). Unit {0}) (Below count) (stopped v)
@@ -68,7 +68,7 @@ check-index a b tol l count start closing =
       ),
     )
   where
-    within : claimSo (rowOf l) count start closing ≡ true → Below mostPoints (pointsVerdict a b (tol .confusion) (rowOf l) count closing)
+    within : claimSo (rowOf l) count start closing ≡ true → Below mostPoints (pointsVerdict (isOwn a) a b (tol .confusion) (rowOf l) count closing)
     within e =
         let m = claimed (rowOf l) count start closing e .1 in
         let b = points-below a b (tol .confusion) (rowOf l) count closing in

@@ -17,17 +17,17 @@ use Rattle.groups.specs.declared.row.Row.{Row}
 use Rattle.groups.specs.Groups.{width}
 use Rattle.groups.specs.Row.{numbersOf}
 use Rattle.patch.specs.declared.patch.Patch.{Patch}
-use Rattle.certificate.specs.Check.{pointVerdict, pointBody, sameNumbers, sameRow}
+use Rattle.certificate.specs.Check.{isOwn, pointVerdict, pointBody, sameNumbers, sameRow}
 
 -- ---- the points
 
 module _ (a b : Patch) (confusion : Float) (rows : ℕ → Row) (count closing i : ℕ) {before r : Row} {s : Verdict} where
-  module _ (p : before ≡ rows (i - 1)) (q : r ≡ rows i) (e : s ≡ pointVerdict a b confusion before r count closing i) where
+  module _ (p : before ≡ rows (i - 1)) (q : r ≡ rows i) (e : s ≡ pointVerdict (isOwn a) a b confusion before r count closing i) where
     -- a refusal ends the loop, and it goes on from a point that passes
-    pub point-out : {t : Refusal} → s ≡ Refused t → pointBody a b confusion rows count closing i tt ≡ out (Refused t)
+    pub point-out : {t : Refusal} → s ≡ Refused t → pointBody (isOwn a) a b confusion rows count closing i tt ≡ out (Refused t)
     point-out f = rw (← p, ← q, ← e, f)
 
-    pub point-on : s ≡ Passed → pointBody a b confusion rows count closing i tt ≡ on tt
+    pub point-on : s ≡ Passed → pointBody (isOwn a) a b confusion rows count closing i tt ≡ on tt
     point-on f = rw (← p, ← q, ← e, f)
 
 -- the row read is the one before the next

@@ -30,7 +30,7 @@ use Rattle.patch.specs.Located.{pointA, pointB}
 use Rattle.patch.specs.Patch.{insideOf}
 use Rattle.patch.proofs.Fitness.{pair-passed, passed-pair}
 use Rattle.certificate.specs.Passes.{parametersIn, closingChord, PointPasses, ClosedAs, claimed-open, forward, backward, Passes}
-use Rattle.certificate.specs.Check.{finitePoint, samePoint, ownOf, chordFits, pointTests, pointVerdict, stopped, pointBody, allPassed, pointsVerdict, sameRow, closingSo, claimSo, checkTests, checkOf}
+use Rattle.certificate.specs.Check.{isOwn, finitePoint, samePoint, ownOf, chordFits, pointTests, pointVerdict, stopped, pointBody, allPassed, pointsVerdict, sameRow, closingSo, claimSo, checkTests, checkOf}
 use Rattle.certificate.proofs.Bits.{Binary64, AllFit, point-fits, point-equal, equal-point, row-fits, row-equal, equal-row, fresh-fits}
 
 -- ---- one point
@@ -78,17 +78,17 @@ module _ (a b : Patch) (tol : Tolerance) (before r : Row) (count closing i : ℕ
       (equal-point (pointIn r) q (p .own))
 
   -- what a passed point says, and what makes it pass
-  point-passes : AllFit (numbersOf r) → pointVerdict a b (tol .confusion) before r count closing i ≡ Passed → PointPasses a b tol r × Chord
+  point-passes : AllFit (numbersOf r) → pointVerdict (isOwn a) a b (tol .confusion) before r count closing i ≡ Passed → PointPasses a b tol r × Chord
   unfolding pointVerdict
   point-passes d e =
       let x = parametersIn r in
-      let s = first-passed (pointTests a b (tol .confusion) before r count closing i) e in
+      let s = first-passed (pointTests (isOwn a) a b (tol .confusion) before r count closing i) e in
       let n = asked-held (insideOf a b x) (refusal.OutsideWindow i) (s .0) in
       let o = asked-held (ownOf (pointIn r) (pointA a x)) (refusal.NotOwnPoint i) (s .1 .0) in
       let g = asked-held (distanceOf (pointA a x) (pointB b x) ≤? tol .confusion) (refusal.Gap i) (s .1 .1 .0) in
       (own-of d (passes _ n) (passes _ o) (passes _ g), chord-tested (asked-held (chordFits before r count closing i) (refusal.Chord i) (s .1 .1 .1 .0)))
 
-  passes-point : PointPasses a b tol r → Chord → pointVerdict a b (tol .confusion) before r count closing i ≡ Passed
+  passes-point : PointPasses a b tol r → Chord → pointVerdict (isOwn a) a b (tol .confusion) before r count closing i ≡ Passed
   unfolding pointVerdict
   passes-point p k =
       let x = parametersIn r in
@@ -98,10 +98,10 @@ module _ (a b : Patch) (tol : Tolerance) (before r : Row) (count closing i : ℕ
 
 module _ (a b : Patch) (tol : Tolerance) (rows : ℕ → Row) (count closing : ℕ) where
   abbrev from : ℕ → Flow (Unit {0}) Verdict → Verdict
-  from i s = searched (pointBody a b (tol .confusion) rows count closing) allPassed i count s
+  from i s = searched (pointBody (isOwn a) a b (tol .confusion) rows count closing) allPassed i count s
 
   abbrev verdict : ℕ → Verdict
-  verdict i = pointVerdict a b (tol .confusion) (rows (i - 1)) (rows i) count closing i
+  verdict i = pointVerdict (isOwn a) a b (tol .confusion) (rows (i - 1)) (rows i) count closing i
 
   -- it passes only where each point does
   each-passed : (k i : ℕ) → count - i ≡ k → from i (on tt) ≡ Passed → (j : ℕ) → i ≤ j → j < count → verdict j ≡ Passed
@@ -122,13 +122,13 @@ module _ (a b : Patch) (tol : Tolerance) (rows : ℕ → Row) (count closing : �
       searched-step _ allPassed i count tt (omega arith) ∙ ap (from (i + 1)) (ap stopped (f i (omega arith) (omega arith)))
       ∙ all-passed k (i + 1) (omega arith) (λ j h n. f j (omega arith) n)
 
-  points-pass : ((i : ℕ) → i < count → AllFit (numbersOf (rows i))) → pointsVerdict a b (tol .confusion) rows count closing ≡ Passed
+  points-pass : ((i : ℕ) → i < count → AllFit (numbersOf (rows i))) → pointsVerdict (isOwn a) a b (tol .confusion) rows count closing ≡ Passed
       → (i : ℕ) → i < count → PointPasses a b tol (rows i) × Chord a b tol (rows (i - 1)) (rows i) count closing i
   unfolding pointsVerdict
   points-pass d e i h = point-passes a b tol (rows (i - 1)) (rows i) count closing i (d i h) (each-passed count 0 (omega arith) e i (omega arith) h)
 
   pass-points : ((i : ℕ) → i < count → PointPasses a b tol (rows i)) → ((i : ℕ) → i < count → Chord a b tol (rows (i - 1)) (rows i) count closing i)
-      → pointsVerdict a b (tol .confusion) rows count closing ≡ Passed
+      → pointsVerdict (isOwn a) a b (tol .confusion) rows count closing ≡ Passed
   unfolding pointsVerdict
   pass-points p k = all-passed count 0 (omega arith) (λ j z h. passes-point a b tol (rows (j - 1)) (rows j) count closing j (p j h) (k j h))
 

@@ -49,6 +49,10 @@ samePoint p q = sameNumbers (coordinatesOf p) (coordinatesOf q)
 unfoldable pub ownOf : Point3D → Point3D → Bool
 ownOf stored fresh = finitePoint fresh && samePoint stored fresh
 
+-- of a row: its point is A's own at its parameters. The tests of points are over this test, so that one of more numbers is another test
+abbrev pub isOwn : Patch → Row → Bool
+isOwn a r = ownOf (pointIn r) (pointA a (parametersIn r))
+
 -- ---- "point by point 14, 13, 15, 16"
 
 -- what 16 lets through: "computed chord from the point before not at most 0.2, the closing chord not being tested"
@@ -59,17 +63,17 @@ chordFits before r count closing i =
     (distanceOf (pointIn r) (pointIn before) ≤? longestChord))
 
 -- 14: "a parameter outside a window that has no turn mark; NaN is outside"; 13; 15: "computed gap not at most confusion"; 16
-abbrev pub pointTests : Patch → Patch → Float → Row → Row → ℕ → ℕ → ℕ → List Verdict
-pointTests a b confusion before r count closing i =
+abbrev pub pointTests : (Row → Bool) → Patch → Patch → Float → Row → Row → ℕ → ℕ → ℕ → List Verdict
+pointTests own a b confusion before r count closing i =
     asked (insideOf a b (parametersIn r)) (refusal.OutsideWindow i)
-    ∷ asked (ownOf (pointIn r) (pointA a (parametersIn r))) (refusal.NotOwnPoint i)
+    ∷ asked (own r) (refusal.NotOwnPoint i)
     ∷ asked (distanceOf (pointA a (parametersIn r)) (pointB b (parametersIn r)) ≤? confusion) (refusal.Gap i)
     ∷ asked (chordFits before r count closing i) (refusal.Chord i)
     ∷ []
 
 -- point i, of row r, after the row before
-unfoldable pub pointVerdict : Patch → Patch → Float → Row → Row → ℕ → ℕ → ℕ → Verdict
-pointVerdict a b confusion before r count closing i = firstRefusal (pointTests a b confusion before r count closing i)
+unfoldable pub pointVerdict : (Row → Bool) → Patch → Patch → Float → Row → Row → ℕ → ℕ → ℕ → Verdict
+pointVerdict own a b confusion before r count closing i = firstRefusal (pointTests own a b confusion before r count closing i)
 
 -- the first refusal ends the loop over the points
 abbrev pub stopped : Verdict → Flow (Unit {0}) Verdict
@@ -77,16 +81,16 @@ stopped (Refused r) = out (Refused r)
 stopped Passed = on tt
 
 -- one iteration of it
-abbrev pub pointBody : Patch → Patch → Float → (ℕ → Row) → ℕ → ℕ → ℕ → Unit {0} → Flow (Unit {0}) Verdict
-pointBody a b confusion rows count closing i s = stopped (pointVerdict a b confusion (rows (i - 1)) (rows i) count closing i)
+abbrev pub pointBody : (Row → Bool) → Patch → Patch → Float → (ℕ → Row) → ℕ → ℕ → ℕ → Unit {0} → Flow (Unit {0}) Verdict
+pointBody own a b confusion rows count closing i s = stopped (pointVerdict own a b confusion (rows (i - 1)) (rows i) count closing i)
 
 -- no point was refused
 abbrev pub allPassed : Unit {0} → Verdict
 allPassed s = Passed
 
 -- all points, from 0 on
-unfoldable pub pointsVerdict : Patch → Patch → Float → (ℕ → Row) → ℕ → ℕ → Verdict
-pointsVerdict a b confusion rows count closing = searched (pointBody a b confusion rows count closing) allPassed 0 count (on tt)
+unfoldable pub pointsVerdict : (Row → Bool) → Patch → Patch → Float → (ℕ → Row) → ℕ → ℕ → Verdict
+pointsVerdict own a b confusion rows count closing = searched (pointBody own a b confusion rows count closing) allPassed 0 count (on tt)
 
 -- ---- 12: "count outside 4 to 4001, start index not below the count, closing code above 2, or a closing that isn't so"
 
@@ -112,7 +116,7 @@ checkTests a b tol l count start closing =
     pairFitness a b tol
     ∷ asked (holdsOf width l count) refusal.Lent
     ∷ asked (claimSo (rowOf l) count start closing) refusal.Claim
-    ∷ pointsVerdict a b (tol .confusion) (rowOf l) count closing
+    ∷ pointsVerdict (isOwn a) a b (tol .confusion) (rowOf l) count closing
     ∷ []
 
 -- the public check of the first `count` points of a list

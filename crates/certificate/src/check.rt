@@ -11,7 +11,7 @@ ghost use mathlib.Core.Path.{_≡_};
 ghost use Prim.Native.Nat.{_<_};
 ghost use Rattle.groups.specs.Row.{rowOf};
 ghost use Rattle.certificate.specs.Passes.{closingChord};
-ghost use Rattle.certificate.specs.Check.{finitePoint, samePoint, ownOf, chordFits, pointVerdict, pointsVerdict, sameRow, closingSo, claimSo, checkOf};
+ghost use Rattle.certificate.specs.Check.{isOwn, finitePoint, samePoint, ownOf, chordFits, pointVerdict, pointsVerdict, sameRow, closingSo, claimSo, checkOf};
 
 fn finite_point(p: Point3D) -> bool
     ensures { λ r. ⌜ r ≡ finitePoint p ⌝ }
@@ -70,7 +70,7 @@ fn point_verdict(
     i: usize,
 ) -> Verdict
     requires { ⌜ 0 < count ⌝ }
-    ensures { λ r. ⌜ r ≡ pointVerdict a b confusion before row count closing i ⌝ }
+    ensures { λ r. ⌜ r ≡ pointVerdict (isOwn a) a b confusion before row count closing i ⌝ }
 {
     let x = Parameters {
         u1: row.u1,
@@ -106,7 +106,7 @@ fn points_verdict(
     count: usize,
     closing: usize,
 ) -> Verdict
-    ensures { λ r. ⌜ r ≡ pointsVerdict a b confusion (rowOf (now (points .entry))) count closing ⌝ }
+    ensures { λ r. ⌜ r ≡ pointsVerdict (isOwn a) a b confusion (rowOf (now (points .entry))) count closing ⌝ }
 {
     let mut before = row_of(points, 0);
     for i in 0..count {

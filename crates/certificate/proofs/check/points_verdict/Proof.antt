@@ -5,7 +5,7 @@ use denote.Ref.{now}
 use Rattle.loops.specs.Loop.{on, searched}
 use Rattle.loops.proofs.Loop.{searched-again, searched-leave, searched-done}
 use Rattle.groups.specs.Row.{rowOf}
-use Rattle.certificate.specs.Check.{pointBody, allPassed, pointsVerdict}
+use Rattle.certificate.specs.Check.{isOwn, pointBody, allPassed, pointsVerdict}
 use Rattle.certificate.proofs.Iterations.{point-out, point-on, row-kept}
 use borrow.Author.Needs.{needs}
 use native.Mathlib.Omega.{arith}
@@ -14,7 +14,7 @@ use Rattle.certificate.proofs.check.points_verdict.Tie as tie
 
 abbrev Inv-loop : tie.InvT-loop
 Inv-loop a b confusion points count closing before₀ i₀ before i =
-    (searched (pointBody a b confusion (rowOf points) count closing) allPassed i count (on tt) ≡ pointsVerdict a b confusion (rowOf points) count closing)
+    (searched (pointBody (isOwn a) a b confusion (rowOf points) count closing) allPassed i count (on tt) ≡ pointsVerdict (isOwn a) a b confusion (rowOf points) count closing)
     × (before ≡ rowOf points (i - 1))
     × (i ≤ count)
 
