@@ -1,4 +1,6 @@
+use mathlib.Core.Path.{_≡_}
 use borrow.Author.Needs.{needs}
+use Rattle.patch.specs.Patch.{fitnessOf}
 use Rattle.patch.specs.Pair.{pairFitness}
 use Rattle.patch.proofs.pair.pair_fitness.Statement.{statement}
 use Rattle.patch.proofs.pair.pair_fitness.Tie as tie
@@ -32,21 +34,24 @@ returns-2 : tie.Need-returns-2
 unfolding pairFitness
 returns-2 c =
     let d = c .before .before .before in
-    rw (← d .before .before .before .fitness .ensures, d .before .enum-told .given .1, ← d .fitness2 .ensures, c .before .second .given .1)
+    let second : d .fitness2 .result ≡ fitnessOf (d .before .before .before .before .args .b) = d .fitness2 .ensures in
+    rw (← d .before .before .before .fitness .ensures, d .before .enum-told .given .1, ← second, c .before .second .given .1)
 
 returns-3 : tie.Need-returns-3
 unfolding pairFitness
 returns-3 c =
     let e = c .before .before in
     let d = e .before .before in
-    rw (← d .before .before .before .fitness .ensures, d .before .enum-told .given .1, ← d .fitness2 .ensures, e .enum-told2 .given .1, ← c .before .is-fit .ensures, c .if1 .taken)
+    let second : d .fitness2 .result ≡ fitnessOf (d .before .before .before .before .args .b) = d .fitness2 .ensures in
+    rw (← d .before .before .before .fitness .ensures, d .before .enum-told .given .1, ← second, e .enum-told2 .given .1, ← c .before .is-fit .ensures, c .if1 .taken)
 
 returns-4 : tie.Need-returns-4
 unfolding pairFitness
 returns-4 c =
     let e = c .before .before in
     let d = e .before .before in
-    rw (← d .before .before .before .fitness .ensures, d .before .enum-told .given .1, ← d .fitness2 .ensures, e .enum-told2 .given .1, ← c .before .is-fit .ensures, c .if1 .left)
+    let second : d .fitness2 .result ≡ fitnessOf (d .before .before .before .before .args .b) = d .fitness2 .ensures in
+    rw (← d .before .before .before .fitness .ensures, d .before .enum-told .given .1, ← second, e .enum-told2 .given .1, ← c .before .is-fit .ensures, c .if1 .left)
 
 pub pair-fitness-spec : {M : Type 1} → statement M
 pair-fitness-spec =

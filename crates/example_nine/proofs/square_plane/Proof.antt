@@ -1,7 +1,7 @@
 use mathlib.Core.Path.{refl}
 use lib.Ieee.{ofBits, neg}
-use Rattle.examples.proofs.square_plane.Statement.{statement}
-use Rattle.examples.proofs.square_plane.Tie as tie
+use Rattle.example_nine.proofs.square_plane.Statement.{statement}
+use Rattle.example_nine.proofs.square_plane.Tie as tie
 
 returns : tie.Need-returns
 unfolding ofBits neg

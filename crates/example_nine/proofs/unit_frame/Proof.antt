@@ -1,7 +1,7 @@
 use Rattle.geometry.specs.Vector.{zeroVector}
 use borrow.Author.Needs.{needs}
-use Rattle.examples.proofs.unit_frame.Statement.{statement}
-use Rattle.examples.proofs.unit_frame.Tie as tie
+use Rattle.example_nine.proofs.unit_frame.Statement.{statement}
+use Rattle.example_nine.proofs.unit_frame.Tie as tie
 
 moved-frame-requires : tie.Need-moved-frame-requires
 moved-frame-requires c κs = search needs

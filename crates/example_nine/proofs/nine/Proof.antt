@@ -1,8 +1,8 @@
 use mathlib.Core.Path.{_∙_}
 use borrow.Author.Needs.{needs}
 use Rattle.geometry.specs.Tolerance.{defaultTolerance}
-use Rattle.examples.proofs.nine.Statement.{statement}
-use Rattle.examples.proofs.nine.Tie as tie
+use Rattle.example_nine.proofs.nine.Statement.{statement}
+use Rattle.example_nine.proofs.nine.Tie as tie
 
 unit-frame-requires : tie.Need-unit-frame-requires
 unit-frame-requires c κs = search needs

@@ -1,6 +1,6 @@
 use borrow.Author.Needs.{needs}
-use Rattle.examples.proofs.moved_frame.Statement.{statement}
-use Rattle.examples.proofs.moved_frame.Tie as tie
+use Rattle.example_nine.proofs.moved_frame.Statement.{statement}
+use Rattle.example_nine.proofs.moved_frame.Tie as tie
 
 new-requires : tie.Need-new-requires
 new-requires c κs = search needs
