@@ -34,7 +34,8 @@ returns-3 : tie.Need-returns-3
 unfolding crossingFitness
 returns-3 c =
     let n = c .before in let h = n .before .before in let t = h .before .before in
-    rw (← t .is-fit .ensures, not-false (t .is-fit .result) (h .before .if1 .left), ← h .holds .ensures, not-false (h .holds .result) (n .before .if2 .left), ← n .count-fits .ensures, not-true (n .count-fits .result) (c .if3 .taken))
+    let fit = not-false (t .is-fit .result) (h .before .if1 .left) in let held = not-false (h .holds .result) (n .before .if2 .left) in
+    rw (← t .is-fit .ensures, fit, ← h .holds .ensures, held, ← n .count-fits .ensures, not-true (n .count-fits .result) (c .if3 .taken))
 
 some-unfit-requires : tie.Need-some-unfit-requires
 some-unfit-requires c κs =
@@ -46,7 +47,9 @@ returns-4 : tie.Need-returns-4
 unfolding crossingFitness
 returns-4 c =
     let u = c .before in let n = u .before .before in let h = n .before .before in let t = h .before .before in
-    rw (← t .is-fit .ensures, not-false (t .is-fit .result) (h .before .if1 .left), ← h .holds .ensures, not-false (h .holds .result) (n .before .if2 .left), ← n .count-fits .ensures, not-false (n .count-fits .result) (u .before .if3 .left), ← u .some-unfit .ensures, c .if4 .taken)
+    let fit = not-false (t .is-fit .result) (h .before .if1 .left) in let held = not-false (h .holds .result) (n .before .if2 .left) in
+    let counted = not-false (n .count-fits .result) (u .before .if3 .left) in
+    rw (← t .is-fit .ensures, fit, ← h .holds .ensures, held, ← n .count-fits .ensures, counted, ← u .some-unfit .ensures, c .if4 .taken)
 
 box-fit-requires : tie.Need-box-fit-requires
 box-fit-requires c κs = search needs
@@ -55,13 +58,17 @@ returns-5 : tie.Need-returns-5
 unfolding crossingFitness
 returns-5 c =
     let f = c .before in let u = f .before .before in let n = u .before .before in let h = n .before .before in let t = h .before .before in
-    rw (← t .is-fit .ensures, not-false (t .is-fit .result) (h .before .if1 .left), ← h .holds .ensures, not-false (h .holds .result) (n .before .if2 .left), ← n .count-fits .ensures, not-false (n .count-fits .result) (u .before .if3 .left), ← u .some-unfit .ensures, f .before .if4 .left, ← f .box-fit .ensures, c .if5 .taken)
+    let fit = not-false (t .is-fit .result) (h .before .if1 .left) in let held = not-false (h .holds .result) (n .before .if2 .left) in
+    let counted = not-false (n .count-fits .result) (u .before .if3 .left) in
+    rw (← t .is-fit .ensures, fit, ← h .holds .ensures, held, ← n .count-fits .ensures, counted, ← u .some-unfit .ensures, f .before .if4 .left, ← f .box-fit .ensures, c .if5 .taken)
 
 returns-6 : tie.Need-returns-6
 unfolding crossingFitness
 returns-6 c =
     let f = c .before in let u = f .before .before in let n = u .before .before in let h = n .before .before in let t = h .before .before in
-    rw (← t .is-fit .ensures, not-false (t .is-fit .result) (h .before .if1 .left), ← h .holds .ensures, not-false (h .holds .result) (n .before .if2 .left), ← n .count-fits .ensures, not-false (n .count-fits .result) (u .before .if3 .left), ← u .some-unfit .ensures, f .before .if4 .left, ← f .box-fit .ensures, c .if5 .left)
+    let fit = not-false (t .is-fit .result) (h .before .if1 .left) in let held = not-false (h .holds .result) (n .before .if2 .left) in
+    let counted = not-false (n .count-fits .result) (u .before .if3 .left) in
+    rw (← t .is-fit .ensures, fit, ← h .holds .ensures, held, ← n .count-fits .ensures, counted, ← u .some-unfit .ensures, f .before .if4 .left, ← f .box-fit .ensures, c .if5 .left)
 
 pub crossing-fitness-spec : {M : Type 1} → statement M
 crossing-fitness-spec =

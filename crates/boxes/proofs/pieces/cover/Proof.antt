@@ -29,7 +29,9 @@ new-requires-2 c κs = search needs
 
 returns : tie.Need-returns
 unfolding coverOf
-returns c = rw (c .new2 .ensures, c .before .max3 .ensures, c .before .before .max2 .ensures, c .before .before .before .max .ensures, c .before .before .before .before .new .ensures, c .before .before .before .before .before .min3 .ensures, c .before .before .before .before .before .before .min2 .ensures, c .before .before .before .before .before .before .before .min .ensures)
+returns c =
+    let m = c .before .before .before in let n = m .before in let l = n .before .before .before in
+    rw (c .new2 .ensures, c .before .max3 .ensures, c .before .before .max2 .ensures, m .max .ensures, n .new .ensures, n .before .min3 .ensures, n .before .before .min2 .ensures, l .min .ensures)
 
 pub cover-spec : {M : Type 1} → statement M
 cover-spec = tie.close (tie.spec min-requires min-requires-2 min-requires-3 new-requires max-requires max-requires-2 max-requires-3 new-requires-2 returns)

@@ -32,7 +32,8 @@ returns-2 : tie.Need-returns-2
 unfolding checkOf
 returns-2 c =
     let s = c .before in let h = s .before .before in let p = h .before in
-    rw (← p .before .before .pair-fitness .ensures, p .enum-told .given .1, ← h .holds .ensures, not-false (h .holds .result) (s .before .if1 .left), ← s .claim-so .ensures, not-true (s .claim-so .result) (c .if2 .taken))
+    let held = not-false (h .holds .result) (s .before .if1 .left) in
+    rw (← p .before .before .pair-fitness .ensures, p .enum-told .given .1, ← h .holds .ensures, held, ← s .claim-so .ensures, not-true (s .claim-so .result) (c .if2 .taken))
 
 points-verdict-requires : tie.Need-points-verdict-requires
 points-verdict-requires c κs = search needs
@@ -45,7 +46,8 @@ returns-4 : tie.Need-returns-4
 unfolding checkOf
 returns-4 c =
     let s = c .before .before in let h = s .before .before in let p = h .before in
-    rw (← p .before .before .pair-fitness .ensures, p .enum-told .given .1, ← h .holds .ensures, not-false (h .holds .result) (s .before .if1 .left), ← s .claim-so .ensures, not-false (s .claim-so .result) (c .before .if2 .left)) (c .points-verdict .ensures ∙ sym (last-test _))
+    let held = not-false (h .holds .result) (s .before .if1 .left) in let so = not-false (s .claim-so .result) (c .before .if2 .left) in
+    rw (← p .before .before .pair-fitness .ensures, p .enum-told .given .1, ← h .holds .ensures, held, ← s .claim-so .ensures, so) (c .points-verdict .ensures ∙ sym (last-test _))
 
 pub check-spec : {M : Type 1} → statement M
 check-spec =

@@ -32,7 +32,8 @@ returns-2 : tie.Need-returns-2
 unfolding pointVerdict
 returns-2 c =
     let o = c .before in let n = o .before .before .before .before in
-    rw (← n .inside .ensures, not-false (n .inside .result) (o .before .before .before .if1 .left), ← o .before .before .eval-point .ensures, ← o .before .point .ensures, ← o .own .ensures, not-true (o .own .result) (c .if2 .taken))
+    let in-windows = not-false (n .inside .result) (o .before .before .before .if1 .left) in
+    rw (← n .inside .ensures, in-windows, ← o .before .before .eval-point .ensures, ← o .before .point .ensures, ← o .own .ensures, not-true (o .own .result) (c .if2 .taken))
 
 eval-point-requires-2 : tie.Need-eval-point-requires-2
 eval-point-requires-2 c κs = search needs
@@ -44,7 +45,9 @@ returns-3 : tie.Need-returns-3
 unfolding pointVerdict
 returns-3 c =
     let g = c .before in let o = g .before .before .before in let n = o .before .before .before .before in
-    rw (← n .inside .ensures, not-false (n .inside .result) (o .before .before .before .if1 .left), ← o .before .before .eval-point .ensures, ← o .before .point .ensures, ← o .own .ensures, not-false (o .own .result) (g .before .before .if2 .left), ← g .before .eval-point2 .ensures, ← g .within .ensures, not-true (g .within .result) (c .if3 .taken))
+    let in-windows = not-false (n .inside .result) (o .before .before .before .if1 .left) in
+    let is-own = not-false (o .own .result) (g .before .before .if2 .left) in
+    rw (← n .inside .ensures, in-windows, ← o .before .before .eval-point .ensures, ← o .before .point .ensures, ← o .own .ensures, is-own, ← g .before .eval-point2 .ensures, ← g .within .ensures, not-true (g .within .result) (c .if3 .taken))
 
 chord-fits-requires : tie.Need-chord-fits-requires
 chord-fits-requires c κs = search needs
@@ -53,13 +56,17 @@ returns-4 : tie.Need-returns-4
 unfolding pointVerdict
 returns-4 c =
     let k = c .before in let g = k .before .before in let o = g .before .before .before in let n = o .before .before .before .before in
-    rw (← n .inside .ensures, not-false (n .inside .result) (o .before .before .before .if1 .left), ← o .before .before .eval-point .ensures, ← o .before .point .ensures, ← o .own .ensures, not-false (o .own .result) (g .before .before .if2 .left), ← g .before .eval-point2 .ensures, ← g .within .ensures, not-false (g .within .result) (k .before .if3 .left), ← k .chord-fits .ensures, c .if4 .taken)
+    let in-windows = not-false (n .inside .result) (o .before .before .before .if1 .left) in
+    let is-own = not-false (o .own .result) (g .before .before .if2 .left) in let near = not-false (g .within .result) (k .before .if3 .left) in
+    rw (← n .inside .ensures, in-windows, ← o .before .before .eval-point .ensures, ← o .before .point .ensures, ← o .own .ensures, is-own, ← g .before .eval-point2 .ensures, ← g .within .ensures, near, ← k .chord-fits .ensures, c .if4 .taken)
 
 returns-5 : tie.Need-returns-5
 unfolding pointVerdict
 returns-5 c =
     let k = c .before in let g = k .before .before in let o = g .before .before .before in let n = o .before .before .before .before in
-    rw (← n .inside .ensures, not-false (n .inside .result) (o .before .before .before .if1 .left), ← o .before .before .eval-point .ensures, ← o .before .point .ensures, ← o .own .ensures, not-false (o .own .result) (g .before .before .if2 .left), ← g .before .eval-point2 .ensures, ← g .within .ensures, not-false (g .within .result) (k .before .if3 .left), ← k .chord-fits .ensures, c .if4 .left)
+    let in-windows = not-false (n .inside .result) (o .before .before .before .if1 .left) in
+    let is-own = not-false (o .own .result) (g .before .before .if2 .left) in let near = not-false (g .within .result) (k .before .if3 .left) in
+    rw (← n .inside .ensures, in-windows, ← o .before .before .eval-point .ensures, ← o .before .point .ensures, ← o .own .ensures, is-own, ← g .before .eval-point2 .ensures, ← g .within .ensures, near, ← k .chord-fits .ensures, c .if4 .left)
 
 pub point-verdict-spec : {M : Type 1} → statement M
 point-verdict-spec =
