@@ -1,4 +1,4 @@
--- Laws of the answer's text: its digits, and texts laid one behind the other.
+-- Laws of the answer's text: its digits, and texts put one behind the other.
 use mathlib.Core.Path.{_≡_, sym, ap, subst, _∙_}
 use mathlib.Core.List.{List, [], _∷_, _++_, append-nil, append-assoc}
 use Prim.Native.Nat.{ℕ, suc, _+_, _-_, _/_, _%_, _≤_, _<_}
@@ -8,8 +8,10 @@ use borrow.Author.Tests.{le-ltb, lt-ltb}
 use borrow.Rule.Slice.PartAt.{part-to-end}
 use borrow.Rule.Slice.PartMut.{putMid, post-is}
 use lib.ListN.{length, take, drop, set, length-append, length-drop}
-use lib.Seq.{take-length, drop-length, drop-drop, drop-at, set-split, length-take-le, take-append-seam, drop-append-seam}
-use Rattle.answer.specs.Line.{digitOf, spell, decimalOf, traceWord, refusedWord, space, newline, traceLine, refusedLine, laid, written}
+use lib.Seq.{take-length, drop-length, drop-drop, drop-at, set-split, length-take-le}
+use Rattle.loops.specs.Over.{over, written}
+use Rattle.loops.proofs.Over.{over-front, written-over}
+use Rattle.answer.specs.Line.{digitOf, spell, decimalOf, traceWord, refusedWord, space, newline, traceLine, refusedLine}
 
 -- ---- the digits of a number, put down from the last to the first
 
@@ -58,19 +60,13 @@ module _ (l d : List ℕ) (k : ℕ) (e : length l ≡ 20) (s : drop k l ≡ d) w
   pub twenty-short : length d ≤ 20
   twenty-short = rw (← s) (omega (arith, length-drop k l))
 
--- ---- texts laid one behind the other
+-- ---- texts put one behind the other
 
 -- a text copied to the front of what follows `at`
-pub laid-part : (l t p : List ℕ) (at : ℕ) → at + length t ≤ length l
-    → p ≡ take (length t) t ++ drop (length t) (take (length l - at) (drop at l)) → putMid at (length l - at) l p ≡ laid l at t
-unfolding laid
-laid-part l t p at h e =
-    rw (e, take-length t, part-to-end l at, drop-drop (length t) at l, post-is at (length l) l (omega arith), drop-length l, append-nil)
-
-more : (t s l : List ℕ) → laid (written t l) (length t) s ≡ written (t ++ s) l
-unfolding laid written
-more t s l =
-    rw (take-append-seam, ← drop-drop (length s) (length t) (t ++ drop (length t) l), drop-append-seam, drop-drop, length-append) (simp append-assoc)
+pub over-part : (l t p : List ℕ) (at : ℕ) → at + length t ≤ length l
+    → p ≡ take (length t) t ++ drop (length t) (take (length l - at) (drop at l)) → putMid at (length l - at) l p ≡ over l at t
+over-part l t p at h e =
+    rw (e, take-length t, part-to-end l at, drop-drop (length t) at l, post-is at (length l) l (omega arith), drop-length l, append-nil) (sym (append-assoc (take at l) t (drop (at + length t) l)))
 
 -- as many bytes as a line has are there, and the part of them that is lent on is as long
 module _ (t l m : List ℕ) (r : ℕ) (w : (r ≡ length t) × (m ≡ written t l)) where
@@ -82,19 +78,18 @@ module _ (t l m : List ℕ) (r : ℕ) (w : (r ≡ length t) × (m ≡ written t 
   line-count = sym (length-take-le r m line-holds)
 
 -- the first text, and a text behind what is written already
-pub text-first : (s l l′ : List ℕ) (r : ℕ) → r ≡ 0 + length s → l′ ≡ laid l 0 s → (r ≡ length s) × (l′ ≡ written s l)
-unfolding laid written
-text-first s l l′ r e f = (rw zero-add at e, rw zero-add at f)
+pub text-first : (s l l′ : List ℕ) (r : ℕ) → r ≡ 0 + length s → l′ ≡ over l 0 s → (r ≡ length s) × (l′ ≡ written s l)
+text-first s l l′ r e f = (rw zero-add at e, f ∙ over-front l s)
 
-pub text-next : (t s l₀ l l′ : List ℕ) (at r : ℕ) → (at ≡ length t) × (l ≡ written t l₀) → r ≡ at + length s → l′ ≡ laid l at s
+pub text-next : (t s l₀ l l′ : List ℕ) (at r : ℕ) → (at ≡ length t) × (l ≡ written t l₀) → r ≡ at + length s → l′ ≡ over l at s
     → (r ≡ length (t ++ s)) × (l′ ≡ written (t ++ s) l₀)
-text-next t s l₀ l l′ at r w e f = (rw (e, w .0, length-append), rw (f, w .0, w .1, more))
+text-next t s l₀ l l′ at r w e f = (rw (e, w .0, length-append), rw (f, w .0, w .1, written-over))
 
--- the digits that stand from k on in twenty bytes, laid into the line
-pub number-laid : (l d m m′ : List ℕ) (k at r : ℕ) → length l ≡ 20 → drop k l ≡ d
-    → (r ≡ at + length (take (20 - k) (drop k l))) × (m′ ≡ laid m at (take (20 - k) (drop k l)))
-    → (r ≡ at + length d) × (m′ ≡ laid m at d) × (r ≤ at + 20)
-number-laid l d m m′ k at r e s w =
+-- the digits that stand from k on in twenty bytes, put into the line
+pub number-over : (l d m m′ : List ℕ) (k at r : ℕ) → length l ≡ 20 → drop k l ≡ d
+    → (r ≡ at + length (take (20 - k) (drop k l))) × (m′ ≡ over m at (take (20 - k) (drop k l)))
+    → (r ≡ at + length d) × (m′ ≡ over m at d) × (r ≤ at + 20)
+number-over l d m m′ k at r e s w =
     let f = rw (twenty-part l d k e s) at w in
     (f .0, f .1, omega (arith, f .0, twenty-short l d k e s))
 

@@ -4,8 +4,8 @@ use mathlib.Core.List.{List}
 use Prim.Native.Nat.{ℕ}
 use Rattle.refusal.specs.declared.Refusal.{Refusal}
 use Rattle.refusal.proofs.Laws.{number-not-0}
-use Rattle.walk.specs.declared.answer.Traced.{Traced}
-use Rattle.walk.specs.declared.answer.Traced.the-variants as traced
+use Rattle.groups.specs.declared.traced.Traced.{Traced}
+use Rattle.groups.specs.declared.traced.Traced.the-variants as traced
 use Rattle.walk.specs.Trace.{traceOf}
 use Rattle.job.specs.declared.file.Job.{Job}
 use Rattle.job.specs.declared.file.JobRead.{JobRead}

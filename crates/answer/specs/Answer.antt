@@ -6,16 +6,18 @@ use lib.Dec.{eqb}
 use lib.ListN.{length, replicate}
 use lib.Ieee.{Float}
 use Rattle.loops.specs.Loop.{pick}
+use Rattle.loops.specs.Over.{written}
 use Rattle.number.specs.Operators.{bits}
 use Rattle.refusal.specs.declared.Refusal.{Refusal}
 use Rattle.refusal.specs.Refusal.{numberOf}
-use Rattle.walk.specs.declared.answer.Traced.{Traced}
-use Rattle.walk.specs.declared.answer.Traced.the-variants as traced
-use Rattle.walk.specs.Trace.{refusalOf, countOf, startOf, closingOf, traceOf}
+use Rattle.groups.specs.declared.traced.Traced.{Traced}
+use Rattle.groups.specs.declared.traced.Traced.the-variants as traced
+use Rattle.groups.specs.Traced.{refusalOf, countOf, startOf, closingOf}
+use Rattle.walk.specs.Trace.{traceOf}
 use Rattle.job.specs.declared.file.JobRead.{JobRead}
 use Rattle.job.specs.declared.file.JobRead.the-variants.{Whole, Refused}
 use Rattle.job.specs.File.{jobOf}
-use Rattle.answer.specs.Line.{traceLine, refusedLine, written}
+use Rattle.answer.specs.Line.{traceLine, refusedLine}
 use Rattle.passing.specs.Promises.{JobPasses}
 
 -- "It writes one line: `trace`, count, start index, code in decimal, or `refused` and the number."

@@ -2,7 +2,6 @@
 use mathlib.Core.List.{List, [], _∷_, _++_}
 use Prim.Native.Nat.{ℕ, zero, suc, _+_, _*_, _-_, _/_, _%_}
 use lib.Dec.{ltb}
-use lib.ListN.{length, take, drop}
 use Rattle.loops.specs.Loop.{pick}
 
 -- the byte of a digit
@@ -46,11 +45,3 @@ traceLine count start code = traceWord ++ (decimalOf count ++ (space ++ (decimal
 -- "or `refused` and the number"
 unfoldable pub refusedLine : ℕ → List ℕ
 refusedLine number = refusedWord ++ (decimalOf number ++ newline)
-
--- the bytes with a text from `at` on
-unfoldable pub laid : List ℕ → ℕ → List ℕ → List ℕ
-laid l at t = take at l ++ (t ++ drop (at + length t) l)
-
--- the bytes with a text at their front
-unfoldable pub written : List ℕ → List ℕ → List ℕ
-written t l = t ++ drop (length t) l

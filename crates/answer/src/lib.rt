@@ -2,11 +2,11 @@
 pub mod line;
 
 use crate::line::LINE;
+use groups::Traced;
 use job::JobRead;
-use walk::Traced;
 ghost use mathlib.Core.Path.{_≡_};
 ghost use lib.ListN.{length};
-ghost use Rattle.answer.specs.Line.{written};
+ghost use Rattle.loops.specs.Over.{written};
 ghost use Rattle.answer.specs.Answer.{answerLine, answerOf, LinePromise};
 
 // How many numbers the job program lends.

@@ -2,7 +2,8 @@
 ghost use mathlib.Core.Path.{_≡_};
 ghost use Prim.Native.Nat.{_+_, _≤_, _<_};
 ghost use lib.ListN.{length, drop};
-ghost use Rattle.answer.specs.Line.{digitOf, decimalOf, laid, written, traceLine, refusedLine};
+ghost use Rattle.loops.specs.Over.{over, written};
+ghost use Rattle.answer.specs.Line.{digitOf, decimalOf, traceLine, refusedLine};
 
 // How many bytes the longest line has: `trace`, three numbers below 2^64, and what stands between.
 pub const LINE: usize = 69;
@@ -35,7 +36,7 @@ fn digits(n: u64, text: &mut [u8]) -> usize
 // Puts the text into the line from `at` on; where it ends.
 fn append(line: &mut [u8], at: usize, text: &[u8]) -> usize
     requires { ⌜ at + length (now text) ≤ length (now line) ⌝ }
-    ensures { λ r. ⌜ (r ≡ at + length (now (text .entry))) × (now (line .exit) ≡ laid (now (line .entry)) at (now (text .entry))) ⌝ }
+    ensures { λ r. ⌜ (r ≡ at + length (now (text .entry))) × (now (line .exit) ≡ over (now (line .entry)) at (now (text .entry))) ⌝ }
 {
     let count = bytes::copy(text, &mut line[at..]);
     at + count
@@ -44,7 +45,7 @@ fn append(line: &mut [u8], at: usize, text: &[u8]) -> usize
 // Puts the decimal digits of n into the line from `at` on; where they end.
 fn append_number(line: &mut [u8], at: usize, n: u64) -> usize
     requires { ⌜ at + 20 ≤ length (now line) ⌝ }
-    ensures { λ r. ⌜ (r ≡ at + length (decimalOf n)) × (now (line .exit) ≡ laid (now (line .entry)) at (decimalOf n)) × (r ≤ at + 20) ⌝ }
+    ensures { λ r. ⌜ (r ≡ at + length (decimalOf n)) × (now (line .exit) ≡ over (now (line .entry)) at (decimalOf n)) × (r ≤ at + 20) ⌝ }
 {
     let mut text = [0u8; 20];
     let first = digits(n, &mut text);

@@ -15,8 +15,8 @@ use Rattle.refusal.specs.declared.Verdict.the-variants as checked
 use Rattle.certificate.specs.Passes.{Passes}
 use Rattle.refusal.specs.Verdict as verdict
 use Rattle.certificate.proofs.Index.{check-index, code-small}
-use Rattle.walk.specs.declared.answer.Traced.{Traced}
-use Rattle.walk.specs.declared.answer.Traced.the-variants as traced
+use Rattle.groups.specs.declared.traced.Traced.{Traced}
+use Rattle.groups.specs.declared.traced.Traced.the-variants as traced
 use Rattle.job.specs.declared.file.Job.{Job}
 use Rattle.job.specs.declared.file.JobRead.{JobRead}
 use Rattle.job.specs.declared.file.JobRead.the-variants.{Whole, Refused}

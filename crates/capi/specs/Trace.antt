@@ -4,8 +4,9 @@ use mathlib.Core.List.{List}
 use Prim.Native.Nat.{ℕ, _+_, _*_, _^_, _<_}
 use lib.Ieee.{Float}
 use Rattle.refusal.specs.Refusal.{numberOf}
-use Rattle.walk.specs.declared.answer.Traced.{Traced}
-use Rattle.walk.specs.Trace.{Outcome, refusalOf, countOf, startOf, closingOf, traceOf}
+use Rattle.groups.specs.declared.traced.Traced.{Traced}
+use Rattle.groups.specs.Traced.{Outcome, refusalOf, countOf, startOf, closingOf}
+use Rattle.walk.specs.Trace.{traceOf}
 use Rattle.job.specs.declared.file.JobRead.{JobRead}
 use Rattle.job.specs.declared.file.JobRead.the-variants.{Whole, Refused}
 use Rattle.job.specs.File.{jobOf}

@@ -4,12 +4,12 @@ use geometry::Frame3D;
 use geometry::Point3D;
 use geometry::Tolerance;
 use geometry::Vector3D;
+use groups::Traced;
 use patch::Parameters;
 use patch::Patch;
 use patch::Window;
-use walk::Traced;
 ghost use mathlib.Core.Path.{_≡_};
-ghost use Rattle.walk.specs.Trace.{outcome};
+ghost use Rattle.groups.specs.Traced.{outcome};
 ghost use Rattle.examples.specs.Table.{movedFrame, unitFrame, squarePlane, nineOf};
 
 // The frame with axes (1, 0, 0), (0, 1, 0), (0, 0, 1) whose origin is 0 moved.

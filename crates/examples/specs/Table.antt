@@ -30,7 +30,8 @@ use Rattle.solve.specs.Cramer.{solve2Of}
 use Rattle.solve.specs.Solve.{solve3Of}
 use Rattle.solve.specs.declared.cramer.Solved2.the-variants as solved2
 use Rattle.solve.specs.declared.Solved3.the-variants as solved3
-use Rattle.walk.specs.Trace.{Outcome, traceOf, refusalOf}
+use Rattle.groups.specs.Traced.{Outcome, refusalOf}
+use Rattle.walk.specs.Trace.{traceOf}
 
 -- ---- the other numbers of the rows
 

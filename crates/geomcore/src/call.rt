@@ -1,11 +1,11 @@
 use boxes::Aabb;
 use boxes::Crossed;
 use geometry::Tolerance;
+use groups::Traced;
 use patch::Located;
 use patch::Parameters;
 use patch::Patch;
 use refusal::Verdict;
-use walk::Traced;
 ghost use Rattle.passing.specs.Promises.{PointPromise, TracePromise, CheckPromise, CrossingPromise};
 
 // The point of a surface at (u, v). Refused: 1 to 4 for an unfit surface, then 6 for a parameter that is not finite. The windows are not

@@ -1,8 +1,10 @@
 //! Groups of numbers in a flat lent list, one group a point. The width of a group and the least and most points of a trace stand here, once
 //! for the code and once for the definitions (`specs/Groups.antt`); the laws in `proofs/Groups.antt` hold for every width.
 pub mod row;
+pub mod traced;
 
 pub use row::Row;
+pub use traced::Traced;
 ghost use mathlib.Core.Path.{_≡_};
 ghost use Rattle.groups.specs.Groups.{width, countFits, holdsOf};
 

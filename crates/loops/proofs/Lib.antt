@@ -1,3 +1,4 @@
 pub mod Choice
 pub mod Loop
 pub mod Any
+pub mod Over

@@ -30,9 +30,10 @@ use Rattle.certificate.specs.Passes.{Passes}
 use Rattle.walk.specs.Lent.{ownRow, rowsOf}
 use Rattle.walk.specs.Line.{lineOf}
 use Rattle.walk.specs.Line as line
-use Rattle.walk.specs.Trace.{Outcome, outcome, refusalOf, countOf, startOf, closingOf, callFitness, room, settled, afterDirection, afterSeed, walkOf, afterCall, traceOf}
-use Rattle.walk.specs.declared.answer.Traced.{Traced}
-use Rattle.walk.specs.declared.answer.Traced.the-variants.{Line, Refused}
+use Rattle.groups.specs.Traced.{Outcome, outcome, refusalOf, countOf, startOf, closingOf}
+use Rattle.walk.specs.Trace.{callFitness, room, settled, afterDirection, afterSeed, walkOf, afterCall, traceOf}
+use Rattle.groups.specs.declared.traced.Traced.{Traced}
+use Rattle.groups.specs.declared.traced.Traced.the-variants.{Line, Refused}
 use Rattle.walk.proofs.Calls.{CallFit, call-fit}
 use Rattle.passing.proofs.Lines.{LineFine, line-fine}
 use Rattle.passing.proofs.Rows.{line-passes}

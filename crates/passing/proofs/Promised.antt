@@ -16,9 +16,10 @@ use Rattle.certificate.specs.Check.{checkOf}
 use Rattle.certificate.proofs.Bits.{Binary64}
 use Rattle.certificate.proofs.Exact.{passes-finite, passes-exact}
 use Rattle.certificate.proofs.Passed.{checked-passes, passes-checked}
-use Rattle.walk.specs.declared.answer.Traced.{Traced}
-use Rattle.walk.specs.Trace.{countOf, startOf, closingOf, traceOf}
-use Rattle.walk.specs.Trace as trace
+use Rattle.groups.specs.declared.traced.Traced.{Traced}
+use Rattle.groups.specs.Traced.{countOf, startOf, closingOf}
+use Rattle.groups.specs.Traced as trace
+use Rattle.walk.specs.Trace.{traceOf}
 use Rattle.boxes.specs.declared.boxtree.Aabb.{Aabb}
 use Rattle.boxes.specs.declared.crossing.Crossed.{Crossed}
 use Rattle.boxes.specs.Crossing.{crossedOf, crossingOf}

@@ -15,9 +15,10 @@ use Rattle.refusal.specs.declared.Verdict.{Verdict}
 use Rattle.certificate.specs.Passes.{parametersAt, Passes}
 use Rattle.certificate.specs.Check.{checkOf}
 use Rattle.refusal.specs.Verdict as verdict
-use Rattle.walk.specs.declared.answer.Traced.{Traced}
-use Rattle.walk.specs.Trace.{countOf, startOf, closingOf, traceOf}
-use Rattle.walk.specs.Trace as trace
+use Rattle.groups.specs.declared.traced.Traced.{Traced}
+use Rattle.groups.specs.Traced.{countOf, startOf, closingOf}
+use Rattle.groups.specs.Traced as trace
+use Rattle.walk.specs.Trace.{traceOf}
 use Rattle.boxes.specs.declared.boxtree.Aabb.{Aabb}
 use Rattle.boxes.specs.declared.crossing.Crossed.{Crossed}
 use Rattle.boxes.specs.Counts.{Counts, Fit}

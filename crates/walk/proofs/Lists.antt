@@ -1,40 +1,14 @@
 -- Lists under the stores of a loop, and under a call on a part of a slice.
 use mathlib.Core.Path.{_≡_, ap, sym, subst, _∙_}
-use mathlib.Core.List.{List, _++_, append-nil, append-assoc}
+use mathlib.Core.List.{List, _++_, append-nil}
 use Prim.Native.Nat.{ℕ, suc, _+_, _-_, _≤_, _<_}
 use native.Mathlib.Omega.{arith}
 use lib.Ieee.{Float}
 use lib.ListN.{length, take, drop, set, replicate, length-append, length-drop, length-replicate, drop-of-length-le, getD-replicate}
-use lib.Seq.{drop-append-add, drop-drop, take-at, length-take-le, paste, paste-zero, paste-suc, take-length, drop-length}
+use lib.Seq.{length-take-le, paste, paste-zero, paste-suc, take-length, drop-length}
 use Rattle.number.specs.Helpers.{positiveZero}
-use Rattle.walk.specs.Lent.{over}
 
 module _ {A : Type 0} where
-  length-over-head : (l : List A) (at : ℕ) (vs : List A) → at + length vs ≤ length l → length (take at l ++ vs) ≡ at + length vs
-  length-over-head l at vs h =
-      let e : length (take at l) ≡ at = length-take-le at l (omega arith) in
-      length-append (take at l) vs ∙ ap (λ (k : ℕ). k + length vs) e
-
-  pub take-over : (l : List A) (at : ℕ) (vs : List A) → at + length vs ≤ length l → take (at + length vs) (over l at vs) ≡ take at l ++ vs
-  take-over l at vs h = take-at (take at l ++ vs) (drop (at + length vs) l) (at + length vs) (length-over-head l at vs h)
-
-  pub length-over : (l : List A) (at : ℕ) (vs : List A) → at + length vs ≤ length l → length (over l at vs) ≡ length l
-  length-over l at vs h =
-      length-append (take at l ++ vs) (drop (at + length vs) l)
-      ∙ (let e = length-over-head l at vs h in let f = length-drop (at + length vs) l in omega arith)
-
-  -- one list put down behind another
-  pub over-twice : (l : List A) (at : ℕ) (xs ys : List A) → at + length xs + length ys ≤ length l → over (over l at xs) (at + length xs) ys ≡ over l at (xs ++ ys)
-  over-twice l at xs ys h =
-      let e = length-over-head l at xs (omega arith) in
-      let n = length-append xs ys in
-      ap (λ (z : List A). z ++ ys ++ drop (at + length xs + length ys) (over l at xs)) (take-over l at xs (omega arith))
-      ∙ ap (λ (z : List A). (take at l ++ xs) ++ ys ++ z)
-      (ap (λ (k : ℕ). drop (k + length ys) (over l at xs)) (sym e) ∙ drop-append-add (take at l ++ xs) (drop (at + length xs) l) (length ys)
-      ∙ drop-drop (length ys) (at + length xs) l)
-      ∙ ap (λ (z : List A). z ++ drop (at + length xs + length ys) l) (append-assoc (take at l) xs ys)
-      ∙ ap (λ (k : ℕ). take at l ++ (xs ++ ys) ++ drop k l) (let f : at + length xs + length ys ≡ at + length (xs ++ ys) = omega arith in f)
-
   -- a fill to the end, in place: after the stores below i
   abbrev pub filled : List A → ℕ → A → ℕ → List A
   filled b from z i = paste b from (replicate (length b - from) z) (i - from)

@@ -12,7 +12,7 @@ use borrow.Author.Tests.{ltb-true, ltb-false}
 use lib.Ieee.{Float, nan}
 use lib.ListN.{length, take, drop, getD, length-append, length-drop, take-append-drop, List·getD-append}
 use lib.Seq.{length-take-le, take-append-le, drop-append-le, take-length, getD-append-add, getD-take, getD-drop, ext-getD}
-use Rattle.walk.proofs.Lists.{length-over}
+use Rattle.loops.proofs.Over.{length-over}
 use Rattle.groups.specs.Groups.{width}
 use Rattle.groups.specs.declared.row.Row.{Row}
 use Rattle.groups.specs.Row.{numbersOf, rowFrom}

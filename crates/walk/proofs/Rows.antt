@@ -12,7 +12,7 @@ use Rattle.groups.specs.Row.{numbersOf}
 use Rattle.patch.specs.declared.patch.Parameters.{Parameters}
 use Rattle.walk.specs.Lent.{placed, reversedOf, rowsOf}
 use Rattle.walk.specs.Line.{withoutLast}
-use Rattle.walk.proofs.Lists.{take-over, length-over}
+use Rattle.loops.proofs.Over.{take-over, length-over}
 
 pub length-put : (l : List Float) (at : ℕ) (r : Row) {m : List Float} → at + width ≤ length l → m ≡ placed l at r → length m ≡ length l
 length-put l at r h e = ap length e ∙ length-over l at (numbersOf r) h

@@ -2,7 +2,7 @@
 use mathlib.Core.List.{List, [], _∷_, _++_}
 use Prim.Native.Nat.{ℕ, zero, suc, _+_, _*_}
 use lib.Ieee.{Float}
-use lib.ListN.{length, take, drop}
+use lib.ListN.{take, drop}
 use Rattle.groups.specs.Groups.{width}
 use Rattle.groups.specs.declared.row.Row.{Row}
 use Rattle.groups.specs.Row.{numbersOf}
@@ -10,10 +10,6 @@ use Rattle.geometry.specs.declared.point.Point3D.{Point3D}
 use Rattle.patch.specs.Located.{pointA}
 use Rattle.patch.specs.declared.patch.Patch.{Patch}
 use Rattle.patch.specs.declared.patch.Parameters.{Parameters}
-
--- a list with `vs` over what stood from index `at` on
-abbrev pub over : {A : Type 0} → List A → ℕ → List A → List A
-over l at vs = take at l ++ vs ++ drop (at + length vs) l
 
 -- the first numbers of a point, and those behind them
 abbrev pub coordinateNumbers : Row → List Float

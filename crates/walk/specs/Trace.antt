@@ -9,10 +9,11 @@ use lib.ListN.{length, take, drop, replicate}
 use Rattle.loops.specs.Loop.{pick}
 use Rattle.groups.specs.Groups.{width, leastPoints, holdsOf}
 use Rattle.groups.specs.declared.row.Row.{Row}
+use Rattle.groups.specs.declared.traced.Traced.the-variants.{Line, Refused}
+use Rattle.groups.specs.Traced.{Outcome, outcome}
 use Rattle.number.specs.Helpers.{positiveZero}
 use Rattle.refusal.specs.declared.Refusal.{Refusal}
 use Rattle.refusal.specs.declared.Refusal.the-variants as refusal
-use Rattle.refusal.specs.Refusal.{numberOf}
 use Rattle.geometry.specs.declared.tolerance.Tolerance.{Tolerance}
 use Rattle.patch.specs.declared.patch.Patch.{Patch}
 use Rattle.patch.specs.declared.patch.Parameters.{Parameters}
@@ -29,36 +30,6 @@ use Rattle.meeting.specs.Newton.{meetOf}
 use Rattle.walk.specs.Lent.{ownRow, rowsOf}
 use Rattle.walk.specs.Line.{lineOf}
 use Rattle.walk.specs.Line as line
-use Rattle.walk.specs.declared.answer.Traced.{Traced}
-use Rattle.walk.specs.declared.answer.Traced.the-variants.{Line, Refused}
-
--- an answer and what the buffer holds with it
-pub record Outcome : Type 0 where
-  pub answer : Traced
-  pub buffer : List Float
-
-abbrev pub outcome : Traced → List Float → Outcome
-outcome r l = record { answer = r; buffer = l }
-
--- "A refusal is its number alone"; 0 where there is none
-abbrev pub refusalOf : Traced → ℕ
-refusalOf (Line count start closing) = 0
-refusalOf (Refused r) = numberOf r
-
--- "The answer holds the count, the start's index and the closing code": the count
-abbrev pub countOf : Traced → ℕ
-countOf (Line count start closing) = count
-countOf (Refused r) = 0
-
--- the start's index
-abbrev pub startOf : Traced → ℕ
-startOf (Line count start closing) = start
-startOf (Refused r) = 0
-
--- the closing code
-abbrev pub closingOf : Traced → ℕ
-closingOf (Line count start closing) = closing
-closingOf (Refused r) = 0
 
 -- ---- refusals before 9
 

@@ -7,9 +7,10 @@ ghost use mathlib.Core.Path.{_≡_};
 ghost use mathlib.Core.List.{_++_};
 ghost use Prim.Native.Nat.{_+_, _*_, _-_, _≤_};
 ghost use lib.ListN.{length, take, replicate};
+ghost use Rattle.loops.specs.Over.{over};
 ghost use Rattle.groups.specs.Groups.{width, mostPoints};
 ghost use Rattle.number.specs.Helpers.{positiveZero};
-ghost use Rattle.walk.specs.Lent.{over, coordinateNumbers, parameterNumbers, placed, reversedOf, rowFor};
+ghost use Rattle.walk.specs.Lent.{coordinateNumbers, parameterNumbers, placed, reversedOf, rowFor};
 
 // A point's coordinates, from index `at` on.
 fn put_coordinates(out: &mut [f64], at: usize, row: Row)

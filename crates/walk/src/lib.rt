@@ -1,9 +1,6 @@
 //! The walk along the line where two surfaces meet, after the Rust's `trace` (intersect/marching.rs): one half, both halves in the lent
 //! buffer, and the call with its refusals.
-pub mod answer;
 mod half;
 mod lent;
 mod line;
 pub mod trace;
-
-pub use answer::Traced;

@@ -1,6 +1,5 @@
 // Both halves in the lent buffer: the start, the forward half behind it, the backward half behind that; then the points are reversed,
 // so that the line reads from the backward half's end to the forward half's.
-use crate::answer::Traced;
 use crate::half::half;
 use crate::lent::clear;
 use crate::lent::put;
@@ -10,6 +9,7 @@ use geometry::Point3D;
 use geometry::Tolerance;
 use geometry::Vector3D;
 use groups::LEAST_POINTS;
+use groups::Traced;
 use groups::WIDTH;
 use patch::Parameters;
 use patch::Patch;
@@ -22,7 +22,8 @@ ghost use Rattle.groups.specs.Groups.{width, mostPoints};
 ghost use Rattle.patch.specs.Located.{pointA};
 ghost use Rattle.walk.specs.Lent.{joinedOf, ownRow};
 ghost use Rattle.walk.specs.Line.{lineOf};
-ghost use Rattle.walk.specs.Trace.{outcome, mostSteps, room, finishedOf, settled};
+ghost use Rattle.groups.specs.Traced.{outcome};
+ghost use Rattle.walk.specs.Trace.{mostSteps, room, finishedOf, settled};
 
 // The start and `forward` points behind it, then `backward` points: those reversed come first.
 fn join(points: &mut [f64], forward: usize, backward: usize)

@@ -1,8 +1,8 @@
 // The call: refusals, the seed, its tangent, the line.
-use crate::answer::Traced;
 use crate::lent::clear;
 use crate::line::line;
 use geometry::Tolerance;
+use groups::Traced;
 use groups::WIDTH;
 use meeting::Met;
 use meeting::newton::meet;
@@ -16,7 +16,8 @@ use tangent::tangent;
 ghost use mathlib.Core.Path.{_≡_};
 ghost use Prim.Native.Nat.{_≤_};
 ghost use lib.ListN.{length};
-ghost use Rattle.walk.specs.Trace.{outcome, guessFinite, mostSteps, capFits, callFitness, room, walkOf, traceOf};
+ghost use Rattle.groups.specs.Traced.{outcome};
+ghost use Rattle.walk.specs.Trace.{guessFinite, mostSteps, capFits, callFitness, room, walkOf, traceOf};
 
 // The least and the greatest step cap.
 const LEAST_STEPS: usize = 2;

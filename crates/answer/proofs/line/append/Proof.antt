@@ -1,6 +1,7 @@
 use borrow.Author.Needs.{needs}
 use native.Mathlib.Omega.{arith}
-use Rattle.answer.proofs.Text.{laid-part}
+use denote.Ref.{now}
+use Rattle.answer.proofs.Text.{over-part}
 use Rattle.answer.proofs.line.append.Statement.{statement}
 use Rattle.answer.proofs.line.append.Tie as tie
 
@@ -23,7 +24,10 @@ same-length : tie.Need-same-length
 same-length c = search needs
 
 returns : tie.Need-returns
-returns c = (rw (c .before .before .copy .ensures .0), laid-part _ _ _ _ (omega arith) (c .before .before .copy .ensures .1))
+returns c =
+    let d = c .before .before in
+    let g = d .before .before .before .before .args in
+    (rw (d .copy .ensures .0), over-part (now (g .line)) (now (g .text)) _ (g .at) (omega arith) (d .copy .ensures .1))
 
 pub append-spec : {M : Type 1} → statement M
 append-spec = tie.close (tie.spec sub-copy part-copy-start part-copy-end copy-requires add-result same-length returns)

@@ -1,5 +1,5 @@
 use borrow.Author.Needs.{needs}
-use Rattle.answer.proofs.Text.{number-laid}
+use Rattle.answer.proofs.Text.{number-over}
 use Rattle.answer.proofs.line.append_number.Statement.{statement}
 use Rattle.answer.proofs.line.append_number.Tie as tie
 
@@ -27,7 +27,7 @@ same-length c = search needs
 returns : tie.Need-returns
 returns c =
     let d = c .before .before .before .before .before .before .before .digits in
-    number-laid (d .last .1 .0) _ _ _ (d .result) _ _ (d .ensures .2) (d .ensures .1) (c .before .before .append .ensures)
+    number-over (d .last .1 .0) _ _ _ (d .result) _ _ (d .ensures .2) (d .ensures .1) (c .before .before .append .ensures)
 
 pub append-number-spec : {M : Type 1} → statement M
 append-number-spec = tie.close (tie.spec slice-aggregate-digits digits-requires sub-append part-append-start part-append-end append-requires same-length returns)

@@ -2,7 +2,7 @@
 use mathlib.Core.Path.{ap}
 use borrow.Author.Needs.{needs}
 use denote.Ref.{now}
-use Rattle.walk.specs.Trace.{Outcome}
+use Rattle.groups.specs.Traced.{Outcome}
 use Rattle.passing.proofs.Promised.{trace-promised}
 use Rattle.geomcore.proofs.call.trace.Statement.{statement}
 use Rattle.geomcore.proofs.call.trace.Tie as tie

@@ -5,8 +5,9 @@ use native.Mathlib.Omega.{arith}
 use borrow.Author.Needs.{needs}
 use denote.Ref.{now}
 use lib.Ieee.{Float}
-use Rattle.walk.specs.Lent.{over, coordinateNumbers, parameterNumbers}
-use Rattle.walk.proofs.Lists.{over-twice}
+use Rattle.loops.specs.Over.{over}
+use Rattle.loops.proofs.Over.{over-twice}
+use Rattle.walk.specs.Lent.{coordinateNumbers, parameterNumbers}
 use Rattle.walk.proofs.lent.put.Statement.{statement}
 use Rattle.walk.proofs.lent.put.Tie as tie
 

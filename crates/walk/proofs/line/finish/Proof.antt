@@ -3,7 +3,8 @@ use borrow.Author.Needs.{needs}
 use borrow.Author.Tests.{le-leb, lt-leb}
 use denote.Ref.{now}
 use Rattle.groups.specs.Groups.{leastPoints}
-use Rattle.walk.specs.Trace.{outcome, finishedOf}
+use Rattle.groups.specs.Traced.{outcome}
+use Rattle.walk.specs.Trace.{finishedOf}
 use Rattle.walk.proofs.Lists.{cleared}
 use Rattle.walk.proofs.line.finish.Statement.{statement}
 use Rattle.walk.proofs.line.finish.Tie as tie

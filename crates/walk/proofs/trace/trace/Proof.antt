@@ -5,7 +5,8 @@ use borrow.Author.Needs.{needs}
 use denote.Ref.{now}
 use lib.ListN.{drop}
 use lib.Seq.{length-take-le}
-use Rattle.walk.specs.Trace.{Outcome, outcome, room, traceOf}
+use Rattle.groups.specs.Traced.{Outcome, outcome}
+use Rattle.walk.specs.Trace.{room, traceOf}
 use Rattle.walk.proofs.Calls.{CallFit, call-fit}
 use Rattle.walk.proofs.trace.trace.Statement.{statement}
 use Rattle.walk.proofs.trace.trace.Tie as tie

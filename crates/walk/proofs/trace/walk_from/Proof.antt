@@ -19,8 +19,9 @@ use Rattle.tangent.specs.declared.Direction.the-variants as direction
 use Rattle.tangent.specs.Tangent.{tangentOf}
 use Rattle.walk.specs.Lent.{ownRow}
 use Rattle.walk.specs.Line.{lineOf}
-use Rattle.walk.specs.declared.answer.Traced.the-variants.{Refused}
-use Rattle.walk.specs.Trace.{outcome, room, refusedWalk, settled, walkOf}
+use Rattle.groups.specs.declared.traced.Traced.the-variants.{Refused}
+use Rattle.groups.specs.Traced.{outcome}
+use Rattle.walk.specs.Trace.{room, refusedWalk, settled, walkOf}
 use Rattle.walk.proofs.Lists.{cleared}
 use Rattle.walk.proofs.trace.walk_from.Statement.{statement}
 use Rattle.walk.proofs.trace.walk_from.Tie as tie
