@@ -4,10 +4,11 @@ use mathlib.Core.List.{List, [], _∷_}
 use Prim.Native.Nat.{ℕ, _+_, _*_, _≤_}
 use lib.Dec.{T}
 use lib.ListN.{length, getD}
-use lib.Ieee.{Float, nan, binary64, fits}
+use lib.Ieee.{Float, nan, binary64}
 use lib.Ieee.Bits.{is-true}
 use lib.Ieee.Fits.{add-fits, and-l, and-r, and-i}
 use Rattle.number.specs.Helpers.{sameBits}
+use Rattle.number.proofs.Binary64.{Binary64, AllFit}
 use Rattle.number.proofs.Sign.{same-bits→eq, eq→same-bits}
 use Rattle.groups.specs.declared.row.Row.{Row}
 use Rattle.groups.specs.Groups.{width}
@@ -22,15 +23,7 @@ use Rattle.analytic.specs.declared.surface.Surface.{Surface}
 use Rattle.analytic.specs.Surface.{evalPoint}
 use Rattle.certificate.specs.Check.{sameNumbers, coordinatesOf, samePoint, sameRow}
 
--- the numbers of a list are binary64: so are those of every list that a program lends
-abbrev pub Binary64 : List Float → Type 0
-Binary64 l = (k : ℕ) → T (fits binary64 (getD l k nan))
-
 -- ---- numbers one by one
-
-abbrev pub AllFit : List Float → Type 0
-AllFit [] = Unit {0}
-AllFit (x ∷ l) = T (fits binary64 x) × AllFit l
 
 same-equal : (l m : List Float) → AllFit l → AllFit m → T (sameNumbers l m) → l ≡ m
 unfolding sameNumbers

@@ -29,7 +29,7 @@ use Rattle.refusal.specs.declared.Verdict.{Verdict}
 use Rattle.refusal.specs.declared.Verdict.the-variants.{Passed, Refused}
 use Rattle.certificate.specs.Passes.{Passes}
 use Rattle.certificate.specs.Check.{sameNumbers, finitePoint, ownOf, chordFits, pointVerdict, pointsVerdict, closingSo, claimSo, checkOf}
-use Rattle.certificate.proofs.Bits.{Binary64}
+use Rattle.number.proofs.Binary64.{Binary64}
 use Rattle.certificate.proofs.Passed.{checked-passes}
 
 -- opens what a check of planes needs

@@ -15,6 +15,7 @@ use Rattle.loops.specs.Loop.{Flow, on, searched}
 use Rattle.loops.proofs.Any.{cases}
 use Rattle.loops.proofs.Loop.{searched-out, searched-end, searched-step}
 use Rattle.number.specs.Operators.{_≤?_}
+use Rattle.number.proofs.Binary64.{Binary64, AllFit}
 use Rattle.groups.specs.declared.row.Row.{Row}
 use Rattle.groups.specs.Groups.{width, leastPoints, mostPoints, countFits, holdsOf}
 use Rattle.groups.specs.Row.{numbersOf, pointIn, rowOf}
@@ -31,7 +32,7 @@ use Rattle.patch.specs.Patch.{insideOf}
 use Rattle.patch.proofs.Fitness.{pair-passed, passed-pair}
 use Rattle.certificate.specs.Passes.{parametersIn, closingChord, PointPasses, ClosedAs, claimed-open, forward, backward, Passes}
 use Rattle.certificate.specs.Check.{isOwn, finitePoint, samePoint, ownOf, chordFits, pointTests, pointVerdict, stopped, pointBody, allPassed, pointsVerdict, sameRow, closingSo, claimSo, checkTests, checkOf}
-use Rattle.certificate.proofs.Bits.{Binary64, AllFit, point-fits, point-equal, equal-point, row-fits, row-equal, equal-row, fresh-fits}
+use Rattle.certificate.proofs.Bits.{point-fits, point-equal, equal-point, row-fits, row-equal, equal-row, fresh-fits}
 
 -- ---- one point
 

@@ -1,11 +1,11 @@
 -- The laws of lists put over others: their lengths and parts, and one put behind another.
 use mathlib.Core.Path.{_≡_, ap, sym, _∙_}
-use mathlib.Core.List.{List, [], _∷_, _++_, append-assoc}
+use mathlib.Core.List.{List, [], _∷_, _++_, append-nil, append-assoc}
 use Prim.Native.Nat.{ℕ, suc, _+_, _≤_, _<_}
-use native.Mathlib.Nat.{zero-add}
+use native.Mathlib.Nat.{add-zero, zero-add}
 use native.Mathlib.Numerals.{add-one}
 use native.Mathlib.Omega.{arith}
-use lib.ListN.{length, take, drop, set, length-append, length-drop}
+use lib.ListN.{length, take, drop, set, length-append, length-drop, take-append-drop}
 use lib.Seq.{drop-append-add, drop-append-seam, drop-cons, drop-drop, length-take-le, set-append-seam, take-append-seam, take-at}
 use Rattle.loops.specs.Over.{over, written}
 
@@ -24,7 +24,7 @@ module _ {A : Type 0} where
       ∙ (let e = length-over-head l at vs h in let f = length-drop (at + length vs) l in omega arith)
 
   -- one list put down behind another
-  pub over-twice : (l : List A) (at : ℕ) (xs ys : List A) → at + length xs + length ys ≤ length l → over (over l at xs) (at + length xs) ys ≡ over l at (xs ++ ys)
+  over-twice : (l : List A) (at : ℕ) (xs ys : List A) → at + length xs + length ys ≤ length l → over (over l at xs) (at + length xs) ys ≡ over l at (xs ++ ys)
   over-twice l at xs ys h =
       let e = length-over-head l at xs (omega arith) in
       let n = length-append xs ys in
@@ -34,6 +34,16 @@ module _ {A : Type 0} where
       ∙ drop-drop (length ys) (at + length xs) l)
       ∙ ap (λ (z : List A). z ++ drop (at + length xs + length ys) l) (append-assoc (take at l) xs ys)
       ∙ ap (λ (k : ℕ). take at l ++ (xs ++ ys) ++ drop k l) (let f : at + length xs + length ys ≡ at + length (xs ++ ys) = omega arith in f)
+
+  -- by two stores, one behind the other
+  pub over-next : (l : List A) (at n : ℕ) (xs ys : List A) {m r : List A} → length xs ≡ n → at + n + length ys ≤ length l → m ≡ over l at xs → r ≡ over m (at + n) ys
+      → r ≡ over l at (xs ++ ys)
+  over-next l at n xs ys {m} e h f g =
+      g ∙ ap (λ (z : List A). over z (at + n) ys) f ∙ ap (λ (k : ℕ). over (over l at xs) (at + k) ys) (sym e) ∙ over-twice l at xs ys (omega arith)
+
+  -- nothing put anywhere
+  pub over-nothing : (l : List A) (at : ℕ) → over l at [] ≡ l
+  over-nothing l at = rw (append-nil, add-zero) (take-append-drop at l)
 
   -- ---- at the front
 

@@ -10,3 +10,4 @@ pub mod Sums
 pub mod Scaling
 pub mod Fields
 pub mod Bounded
+pub mod Binary64

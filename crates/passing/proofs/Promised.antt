@@ -4,6 +4,7 @@ use mathlib.Core.List.{List}
 use Prim.Native.Nat.{ℕ}
 use native.Mathlib.Omega.{arith}
 use lib.Ieee.{Float}
+use Rattle.number.proofs.Binary64.{Binary64}
 use Rattle.refusal.proofs.Laws.{number-positive}
 use Rattle.geometry.specs.declared.tolerance.Tolerance.{Tolerance}
 use Rattle.patch.specs.declared.patch.Patch.{Patch}
@@ -13,7 +14,6 @@ use Rattle.refusal.specs.declared.Verdict.the-variants.{Passed, Refused}
 use Rattle.certificate.specs.Passes.{Passes}
 use Rattle.refusal.specs.Verdict.{refusalOf}
 use Rattle.certificate.specs.Check.{checkOf}
-use Rattle.certificate.proofs.Bits.{Binary64}
 use Rattle.certificate.proofs.Exact.{passes-finite, passes-exact}
 use Rattle.certificate.proofs.Passed.{checked-passes, passes-checked}
 use Rattle.groups.specs.declared.traced.Traced.{Traced}

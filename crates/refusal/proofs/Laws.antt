@@ -6,7 +6,7 @@ use native.Mathlib.Omega.{arith}
 use borrow.Author.Tests.{ne-eqb}
 use lib.Dec.{eqb}
 use Rattle.refusal.specs.declared.Refusal.{Refusal}
-use Rattle.refusal.specs.declared.Refusal.the-variants.{Number, Size, Window, TurnMark, Tolerance, Parameter, StepCap, Lent, NoMeeting, NoDirection, TooShort, Claim, NotOwnPoint, OutsideWindow, Gap, Chord, BoxNumber, Coordinate, JobFile}
+use Rattle.refusal.specs.declared.Refusal.the-variants.{Number, Size, Window, TurnMark, Tolerance, Parameter, StepCap, Lent, NoMeeting, NoDirection, TooShort, Claim, NotOwnPoint, OutsideWindow, Gap, Chord, BoxNumber, Coordinate, JobFile, TraceFile}
 use Rattle.refusal.specs.Refusal.{numberOf}
 
 number-byte : (r : Refusal) → (1 ≤ numberOf r) × (numberOf r ≤ 255)
@@ -29,6 +29,7 @@ number-byte (Chord i) = (omega arith, omega arith)
 number-byte BoxNumber = (omega arith, omega arith)
 number-byte Coordinate = (omega arith, omega arith)
 number-byte JobFile = (omega arith, omega arith)
+number-byte TraceFile = (omega arith, omega arith)
 
 pub number-positive : (r : Refusal) → 1 ≤ numberOf r
 number-positive r = number-byte r .0

@@ -1,7 +1,7 @@
 -- The numbers of document 01's refusals ("A refusal is its number alone; 13 to 16 add the index of the point"). Definitions only.
 use Prim.Native.Nat.{ℕ}
 use Rattle.refusal.specs.declared.Refusal.{Refusal}
-use Rattle.refusal.specs.declared.Refusal.the-variants.{Number, Size, Window, TurnMark, Tolerance, Parameter, StepCap, Lent, NoMeeting, NoDirection, TooShort, Claim, NotOwnPoint, OutsideWindow, Gap, Chord, BoxNumber, Coordinate, JobFile}
+use Rattle.refusal.specs.declared.Refusal.the-variants.{Number, Size, Window, TurnMark, Tolerance, Parameter, StepCap, Lent, NoMeeting, NoDirection, TooShort, Claim, NotOwnPoint, OutsideWindow, Gap, Chord, BoxNumber, Coordinate, JobFile, TraceFile}
 
 -- "Who can cause a refusal", in its order
 abbrev pub numberOf : Refusal → ℕ
@@ -24,6 +24,8 @@ numberOf (Chord i) = 16
 numberOf BoxNumber = 17
 numberOf Coordinate = 18
 numberOf JobFile = 19
+-- 02, A1: "New numbers, here and later, join document 01's list"
+numberOf TraceFile = 20
 
 -- the index of the point, from 0, that 13 to 16 add; 0 for all others
 abbrev pub indexOf : Refusal → ℕ
@@ -46,3 +48,4 @@ indexOf (Chord i) = i
 indexOf BoxNumber = 0
 indexOf Coordinate = 0
 indexOf JobFile = 0
+indexOf TraceFile = 0

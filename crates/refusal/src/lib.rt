@@ -25,8 +25,9 @@ pub enum Refusal {
     Chord(u64),
     BoxNumber,
     Coordinate,
-    // Of a job file.
+    // Of a job file, of a trace file or of a trace to be written to one.
     JobFile,
+    TraceFile,
 }
 
 // What tests say: all passed, or the first refusal.
@@ -60,6 +61,7 @@ impl Refusal {
             Refusal::BoxNumber => 17,
             Refusal::Coordinate => 18,
             Refusal::JobFile => 19,
+            Refusal::TraceFile => 20,
         }
     }
 
@@ -87,6 +89,7 @@ impl Refusal {
             Refusal::BoxNumber => 0,
             Refusal::Coordinate => 0,
             Refusal::JobFile => 0,
+            Refusal::TraceFile => 0,
         }
     }
 }

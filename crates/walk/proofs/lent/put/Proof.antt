@@ -1,12 +1,8 @@
-use mathlib.Core.Path.{ap, _∙_}
-use mathlib.Core.List.{List}
-use Prim.Native.Nat.{_+_}
+use mathlib.Core.Path.{refl}
 use native.Mathlib.Omega.{arith}
 use borrow.Author.Needs.{needs}
 use denote.Ref.{now}
-use lib.Ieee.{Float}
-use Rattle.loops.specs.Over.{over}
-use Rattle.loops.proofs.Over.{over-twice}
+use Rattle.loops.proofs.Over.{over-next}
 use Rattle.walk.specs.Lent.{coordinateNumbers, parameterNumbers}
 use Rattle.walk.proofs.lent.put.Statement.{statement}
 use Rattle.walk.proofs.lent.put.Tie as tie
@@ -29,8 +25,7 @@ returns c =
     let p = q .before .before .before .before in
     let s = p .before .before .before in
     let g = s .args in
-    q .put-parameters .ensures ∙ ap (λ (l : List Float). over l (g .at + 3) (parameterNumbers (g .row))) (p .put-coordinates .ensures)
-    ∙ over-twice (now (g .out)) (g .at) (coordinateNumbers (g .row)) (parameterNumbers (g .row)) (omega (arith, s .pre))
+    over-next (now (g .out)) (g .at) 3 (coordinateNumbers (g .row)) (parameterNumbers (g .row)) refl (omega (arith, s .pre)) (p .put-coordinates .ensures) (q .put-parameters .ensures)
 
 pub put-spec : {M : Type 1} → statement M
 put-spec = tie.close (tie.spec put-coordinates-requires add-put-parameters put-parameters-requires same-length returns)

@@ -1,0 +1,4 @@
+pub mod Layout
+pub mod File
+pub mod Write
+pub mod Read
