@@ -4,3 +4,4 @@ pub mod Evaluated
 pub mod Exact
 pub mod Index
 pub mod Passed
+pub mod Finite

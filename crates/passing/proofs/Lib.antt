@@ -4,3 +4,4 @@ pub mod Lines
 pub mod Rows
 pub mod Passing
 pub mod Promised
+pub mod Filed

@@ -3,20 +3,28 @@
 use mathlib.Core.Path.{_≡_}
 use mathlib.Core.Bool.{true}
 use mathlib.Core.List.{List}
-use Prim.Native.Nat.{ℕ, _<_}
+use Prim.Native.Nat.{ℕ, _*_, _≤_, _<_}
+use lib.Dec.{leb}
+use lib.ListN.{length, take}
 use lib.Ieee.{Float}
+use Rattle.loops.specs.Loop.{pick}
+use Rattle.loops.specs.Over.{written}
+use Rattle.wire.specs.Wire.{AllBytes}
 use Rattle.geometry.specs.declared.tolerance.Tolerance.{Tolerance}
 use Rattle.gap.specs.Gap.{PointFinite, ExactlyWithin}
 use Rattle.patch.specs.declared.patch.Patch.{Patch}
 use Rattle.patch.specs.declared.patch.Parameters.{Parameters}
 use Rattle.patch.specs.declared.point.Located.{Located}
 use Rattle.patch.specs.Located.{pointA, pointB, locatedOf}
+use Rattle.refusal.specs.declared.Refusal.the-variants as refusal
+use Rattle.refusal.specs.Refusal.{numberOf}
 use Rattle.refusal.specs.declared.Verdict.{Verdict}
 use Rattle.certificate.specs.Passes.{parametersAt, Passes}
 use Rattle.certificate.specs.Check.{checkOf}
 use Rattle.refusal.specs.Verdict as verdict
 use Rattle.groups.specs.declared.traced.Traced.{Traced}
-use Rattle.groups.specs.Traced.{countOf, startOf, closingOf}
+use Rattle.groups.specs.declared.traced.Traced.the-variants.{Line}
+use Rattle.groups.specs.Traced.{outcome, countOf, startOf, closingOf}
 use Rattle.groups.specs.Traced as trace
 use Rattle.walk.specs.Trace.{traceOf}
 use Rattle.boxes.specs.declared.boxtree.Aabb.{Aabb}
@@ -27,6 +35,12 @@ use Rattle.boxes.specs.Crossing.{crossedOf, crossingOf}
 use Rattle.job.specs.declared.file.Job.{Job}
 use Rattle.job.specs.declared.file.JobRead.the-variants.{Whole}
 use Rattle.job.specs.File.{jobOf}
+use Rattle.trace_file.specs.declared.write.Written.{Written}
+use Rattle.trace_file.specs.declared.write.Written.the-variants.{Bytes}
+use Rattle.trace_file.specs.Layout.{fileBytes, version1, width1}
+use Rattle.trace_file.specs.Write.{filed, bytesOf, writeOf}
+use Rattle.trace_file.specs.Write as write
+use Rattle.trace_file.specs.Read.{readOf}
 
 -- ---- the promises
 
@@ -48,7 +62,7 @@ pub record JobPasses (bytes : List ℕ) (l : List Float) (count start closing : 
   pub passes : Passes (job .a) (job .b) (job .tol) l count start closing
   pub exact : ExactGaps (job .a) (job .b) (job .tol) l count
 
--- ---- the contracts of the public four
+-- ---- the contracts of the public calls
 
 -- the point of a surface, or the refusal, is what 01's rules give
 pub record PointPromise (patch : Patch) (u v : Float) (r : Located) : Type 0 where
@@ -79,3 +93,27 @@ pub record CrossingPromise (tol : Tolerance) (l : List Float) (count : ℕ) (box
   -- yes exactly when nothing refuses and some segment counts
   pub counts : crossedOf r ≡ true → Fit tol l count box × ((i : ℕ) × Counts l count (grownOf box (tol .confusion)) i)
   pub complete : Fit tol l count box → (i : ℕ) → Counts l count (grownOf box (tol .confusion)) i → crossedOf r ≡ true
+
+-- a trace written to a file of a version with w numbers a point; `before` and `after` are the lent bytes
+pub record WritePromise (version w : ℕ) (l : List Float) (count start closing : ℕ) (before after : List ℕ) (r : Written) : Type 0 where
+  pub answer : r ≡ writeOf version w l count start closing before .answer
+  pub file : after ≡ writeOf version w l count start closing before .file
+  -- "Reading what was written, into room enough, returns the trace bit for bit"
+  pub reads-back : write.refusalOf r ≡ 0 → (t : List Float) → w * count ≤ length t
+      → readOf version w (take (bytesOf r) after) t ≡ outcome (Line count start closing) (written (take (w * count) l) t)
+
+-- the same for version 1, which has the numbers of a trace that the check reads
+pub record WriteV1Promise (l : List Float) (count start closing : ℕ) (before after : List ℕ) (r : Written) : Type 0 where
+  pub write : WritePromise version1 width1 l count start closing before after r
+  -- a trace that passes the check is written where there is room, and refused by 8 where there is not
+  pub passing : (a b : Patch) (tol : Tolerance) → Passes a b tol l count start closing
+      → write.refusalOf r ≡ pick (leb (fileBytes width1 count) (length before)) 0 (numberOf refusal.Lent)
+
+-- the trace of a file of a version with w numbers a point; `before` and `after` are the lent numbers
+pub record ReadPromise (version w : ℕ) (file : List ℕ) (before after : List Float) (r : Traced) : Type 0 where
+  pub answer : r ≡ readOf version w file before .answer
+  pub buffer : after ≡ readOf version w file before .buffer
+  -- "only one file stands for a trace": a file that reads, written again, is that file, and no other file reads as the same trace
+  pub writes-back : trace.refusalOf r ≡ 0 → (t : List ℕ) → length file ≤ length t
+      → writeOf version w after (countOf r) (startOf r) (closingOf r) t ≡ filed (Bytes (length file)) (written file t)
+  pub only : trace.refusalOf r ≡ 0 → (other : List ℕ) → AllBytes other → readOf version w other before ≡ outcome r after → other ≡ file

@@ -67,7 +67,7 @@ module _ (version w : ℕ) (s : List ℕ) (d : AllBytes s) (room : ℕ) (f : Rea
   size = from-length s numbersPlace (w * countIn s)
 
   -- a file is the file of what it says
-  pub file-again : (l : List Float) → take (w * countIn s) l ≡ numbersIn w s → fileOf version w l (countIn s) (startIn s) (codeIn s) ≡ s
+  file-again : (l : List Float) → take (w * countIn s) l ≡ numbersIn w s → fileOf version w l (countIn s) (startIn s) (codeIn s) ≡ s
   unfolding fileOf
   file-again l e =
       let n = w * countIn s in
@@ -101,7 +101,7 @@ module _ (version w : ℕ) (s : List ℕ) (d : AllBytes s) (room : ℕ) (f : Rea
         }
 
     -- "only one file stands for a trace": a file that reads, written again, is that file
-    pub read-writes : (u : List ℕ) → length s ≤ length u → writeOf version w got (countIn s) (startIn s) (codeIn s) u ≡ filed (Bytes (length s)) (written s u)
+    read-writes : (u : List ℕ) → length s ≤ length u → writeOf version w got (countIn s) (startIn s) (codeIn s) u ≡ filed (Bytes (length s)) (written s u)
     unfolding writeOf
     read-writes u h =
         rw (fit-write w got (countIn s) (startIn s) (codeIn s) (length u) (writes-fit (length u) h), file-again got got-front, ← f .header .bytes)
@@ -121,6 +121,14 @@ read-is : (version w : ℕ) (s : List ℕ) (t : List Float) → ReadFit version 
     → readOf version w s t ≡ outcome (Line (countIn s) (startIn s) (codeIn s)) (written (numbersIn w s) t)
 unfolding readOf
 read-is version w s t f = rw (fit-read version w s (length t) f)
+
+-- what was read, written again
+pub read-again : (version w : ℕ) (s : List ℕ) → AllBytes s → (t : List Float) → refusalOf (readOf version w s t .answer) ≡ 0 → (u : List ℕ) → length s ≤ length u
+    → (let o = readOf version w s t in writeOf version w (o .buffer) (countOf (o .answer)) (startOf (o .answer)) (closingOf (o .answer)) u) ≡ filed (Bytes (length s)) (written s u)
+read-again version w s d t z u h =
+    let f = reads version w s t z in
+    ap (λ (o : Outcome). writeOf version w (o .buffer) (countOf (o .answer)) (startOf (o .answer)) (closingOf (o .answer)) u) (read-is version w s t f)
+    ∙ read-writes version w s d (length t) f t refl u h
 
 pub one-file : (version w : ℕ) (s u : List ℕ) → AllBytes s → AllBytes u → (t : List Float) → refusalOf (readOf version w s t .answer) ≡ 0
     → readOf version w u t ≡ readOf version w s t → u ≡ s
