@@ -1,2 +1,3 @@
 pub mod Words
+pub mod Files
 pub mod Answers

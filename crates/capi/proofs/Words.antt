@@ -17,6 +17,8 @@ use Rattle.refusal.specs.Verdict as verdict
 use Rattle.certificate.proofs.Index.{check-index, code-small}
 use Rattle.groups.specs.declared.traced.Traced.{Traced}
 use Rattle.groups.specs.declared.traced.Traced.the-variants as traced
+use Rattle.groups.specs.Traced.{countOf, startOf, closingOf}
+use Rattle.groups.specs.Traced as trace
 use Rattle.job.specs.declared.file.Job.{Job}
 use Rattle.job.specs.declared.file.JobRead.{JobRead}
 use Rattle.job.specs.declared.file.JobRead.the-variants.{Whole, Refused}
@@ -27,7 +29,7 @@ use Rattle.capi.specs.Check.{checkedWord, checkAnswer, CheckWord}
 use Rattle.capi.specs.Trace.{tracedWord, Bounded, traceAnswer, TraceWord}
 
 -- a refusal's number fills the low byte, and is not 0
-unlike-zero : (r : Refusal) → numberOf r % 256 ≡ 0 → ⊥
+pub unlike-zero : (r : Refusal) → numberOf r % 256 ≡ 0 → ⊥
 unlike-zero r e = let a = number-positive r in let b = number-small r in omega (arith, a, b, e)
 
 pub number-fits : (r : Refusal) → numberOf r < 256
@@ -66,18 +68,21 @@ module _ (code start count : ℕ) (h : code < 256) where
     count-part : (0 + code * 2 ^ 8 + start * 2 ^ 16 + count * 2 ^ 32) / 2 ^ 32 ≡ count
     count-part = omega (arith, h, k)
 
--- a low byte of 0, so the answer is a line, and the parts read out of the word are the line's
+-- a low byte of 0: nothing is refused, and the parts read out of the word are the answer's
+pub parts : (r : Traced) → Bounded r → numberIn (tracedWord r) ≡ 0
+    → (trace.refusalOf r ≡ 0) × (countIn (tracedWord r) ≡ countOf r) × (startIn (tracedWord r) ≡ startOf r) × (closingIn (tracedWord r) ≡ closingOf r)
+unfolding tracedWord
+parts (traced.Refused q) b z = absurd (unlike-zero q (let e : numberOf q % 256 ≡ 0 = omega (arith, z) in e))
+parts (traced.Line count start closing) b z =
+    (refl, count-part closing start count (b .closing) (b .start), start-part closing start count (b .closing) (b .start), code-part closing start count (b .closing))
+
+-- so the line in the buffer passes with them
 module _ (bytes : List ℕ) (j : Job) (read : jobOf bytes ≡ Whole j) (before after : List Float) where
   read-back : (r : Traced) → TracePromise (j .a) (j .b) (j .tol) (j .guess) (j .cap) before after r → numberIn (tracedWord r) ≡ 0
       → JobPasses bytes after (countIn (tracedWord r)) (startIn (tracedWord r)) (closingIn (tracedWord r))
-  unfolding tracedWord
-  read-back (traced.Refused q) p z = absurd (unlike-zero q (let e : numberOf q % 256 ≡ 0 = omega (arith, z) in e))
-  read-back (traced.Line count start closing) p z =
-      let b = bounded (traced.Line count start closing) p in
-      let s1 = b .start in
-      let k1 = b .closing in
-      rw (count-part closing start count k1 s1, start-part closing start count k1 s1, code-part closing start count k1)
-      (record { job = j; read = read; passes = p .passes refl; exact = p .exact refl })
+  read-back r p z =
+      let q = parts r (bounded r p) z in
+      rw (q .1, q .2, q .3) (record { job = j; read = read; passes = p .passes (q .0); exact = p .exact (q .0) })
 
   pub traced-word : {r : Traced} {w : ℕ} → TracePromise (j .a) (j .b) (j .tol) (j .guess) (j .cap) before after r → w ≡ tracedWord r → TraceWord bytes before after w
   unfolding traceAnswer

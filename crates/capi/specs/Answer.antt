@@ -24,6 +24,10 @@ closingIn w = w / 2 ^ 8 % 2 ^ 8
 abbrev pub startIn : ℕ → ℕ
 startIn w = w / 2 ^ 16 % 2 ^ 16
 
--- the four bytes above that: the count
+-- the four bytes above that: the count of points
 abbrev pub countIn : ℕ → ℕ
 countIn w = w / 2 ^ 32
+
+-- the same four bytes of the writer's word: how many bytes it wrote
+abbrev pub bytesIn : ℕ → ℕ
+bytesIn w = w / 2 ^ 32

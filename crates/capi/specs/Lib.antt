@@ -3,3 +3,4 @@ pub mod Point
 pub mod Trace
 pub mod Check
 pub mod Crossing
+pub mod File

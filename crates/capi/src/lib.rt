@@ -12,6 +12,7 @@ use patch::Located;
 use patch::Patch;
 use refusal::Refusal;
 use refusal::Verdict;
+use trace_file::Written;
 ghost use mathlib.Core.Path.{_≡_};
 ghost use Prim.Native.Nat.{_+_, _*_, _≤_, _<_};
 ghost use lib.ListN.{length};
@@ -19,11 +20,13 @@ ghost use Rattle.capi.specs.Answer.{answered};
 ghost use Rattle.refusal.specs.Verdict.{indexIn};
 ghost use Rattle.capi.specs.Check.{checkedWord, CheckWord};
 ghost use Rattle.capi.specs.Crossing.{crossedWord, cornerAt, crossingAnswer};
+ghost use Rattle.capi.specs.File.{writtenWord, WriteWord, ReadWord};
 ghost use Rattle.capi.specs.Point.{put3, pointOn, pointAnswer};
 ghost use Rattle.capi.specs.Trace.{tracedWord, Bounded, TraceWord};
 ghost use Rattle.arctangent.specs.Arctangent.{atan2Of};
 ghost use Rattle.fdlibm.specs.Sine.{sinOf, cosOf};
 ghost use Rattle.sqrt.specs.Sqrt.{SqrtGives};
+ghost use Rattle.trace_file.specs.Write.{bytesOf};
 
 // The square root, correctly rounded.
 #[no_mangle]
@@ -229,4 +232,43 @@ pub extern "C" fn geomcore_crossing(
         high: corner(corners, 3),
     };
     crossed_word(geomcore::call::crossing(tol, buffer, count as usize, b))
+}
+
+// The answer's word: the refusal's number, and 2^32 times how many bytes were written.
+fn written_word(answer: Written) -> u64
+    requires { ⌜ bytesOf answer < 4294967296 ⌝ }
+    ensures { λ r. ⌜ r ≡ writtenWord answer ⌝ }
+{
+    match answer {
+        Written::Bytes(n) => (n as u64) * 4294967296,
+        Written::Refused(refusal) => refusal.number(),
+    }
+}
+
+// Writes the first `count` points of the buffer, seven numbers each, to the front of the lent bytes as a trace file of version 1.
+#[no_mangle]
+pub extern "C" fn geomcore_write_v1(
+    buffer: &[f64],
+    count: u64,
+    start: u64,
+    code: u64,
+    file: &mut [u8],
+) -> u64
+    ensures { λ r. ⌜ WriteWord (now (buffer .entry)) count start code (now (file .entry)) (now (file .exit)) r ⌝ }
+{
+    written_word(geomcore::call::write_v1(
+        buffer,
+        count as usize,
+        start as usize,
+        code as usize,
+        file,
+    ))
+}
+
+// Reads a trace file of version 1 into the front of the buffer. The word is the trace's: count, start and code, or the refusal's number.
+#[no_mangle]
+pub extern "C" fn geomcore_read_v1(file: &[u8], buffer: &mut [f64]) -> u64
+    ensures { λ r. ⌜ ReadWord (now (file .entry)) (now (buffer .entry)) (now (buffer .exit)) r ⌝ }
+{
+    traced_word(geomcore::call::read_v1(file, buffer))
 }

@@ -6,7 +6,9 @@ use patch::Located;
 use patch::Parameters;
 use patch::Patch;
 use refusal::Verdict;
-ghost use Rattle.passing.specs.Promises.{PointPromise, TracePromise, CheckPromise, CrossingPromise};
+use trace_file::Written;
+ghost use Rattle.trace_file.specs.Layout.{version1, width1};
+ghost use Rattle.passing.specs.Promises.{PointPromise, TracePromise, CheckPromise, CrossingPromise, WriteV1Promise, ReadPromise};
 
 // The point of a surface at (u, v). Refused: 1 to 4 for an unfit surface, then 6 for a parameter that is not finite. The windows are not
 // applied.
@@ -67,4 +69,34 @@ pub fn crossing(tol: Tolerance, points: &[f64], count: usize, b: Aabb) -> Crosse
     ensures { λ r. ⌜ CrossingPromise tol (now (points .entry)) count b r ⌝ }
 {
     boxes::crossing::crossing(tol, points, count, b)
+}
+
+// The trace of `count` points at the front of the list, written to the front of the lent bytes as a file of version 1, seven numbers a
+// point: how many bytes it has, 10 + 56 for each point. Refused, in this order: 20 a count outside 4 to 4001, a start index not below it
+// or a code above 2; 8 fewer than 7 numbers for each point, or fewer bytes than the file has; 20 a number that is not finite.
+//
+// A refusal writes nothing, and nothing beyond the file changes. Read into room enough the file gives the trace back, bit for bit. A
+// trace that passes the check is refused at most by 8.
+pub fn write_v1(
+    trace: &[f64],
+    count: usize,
+    start: usize,
+    closing: usize,
+    file: &mut [u8],
+) -> Written
+    ensures { λ r. ⌜ WriteV1Promise (now (trace .entry)) count start closing (now (file .entry)) (now (file .exit)) r ⌝ }
+{
+    trace_file::write::write_v1(trace, count, start, closing, &mut *file)
+}
+
+// The trace of a file of version 1, its numbers at the front of the list, seven a point. Refused: 20 for bytes that are no such file (a
+// version other than 1, what 20 of the writer refuses, a length that does not agree with the count and with the bytes handed over), then 8
+// fewer than 7 numbers for each point. It judges no geometry: the check does.
+//
+// A refusal writes nothing, and nothing beyond the trace changes. A file that reads, written again, is that file, byte for byte: only one
+// file stands for a trace.
+pub fn read_v1(file: &[u8], buffer: &mut [f64]) -> Traced
+    ensures { λ r. ⌜ ReadPromise version1 width1 (now (file .entry)) (now (buffer .entry)) (now (buffer .exit)) r ⌝ }
+{
+    trace_file::read::read_v1(file, &mut *buffer)
 }

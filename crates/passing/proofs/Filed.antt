@@ -2,12 +2,12 @@
 use mathlib.Core.Path.{_≡_, refl, sym, ap, subst, _∙_}
 use mathlib.Core.Bool.{Bool, true, false}
 use mathlib.Core.List.{List}
-use Prim.Native.Nat.{ℕ, _*_, _≤_, _<_}
+use Prim.Native.Nat.{ℕ, _*_, _≤_}
 use native.Mathlib.Omega.{arith}
 use lib.Dec.{T, leb}
 use lib.Ieee.{Float, nan}
 use lib.Ieee.Scale.{finite}
-use lib.ListN.{length, take, getD}
+use lib.ListN.{length, take}
 use lib.Seq.{getD-take, length-take-le}
 use borrow.Author.Tests.{le-leb}
 use Rattle.loops.specs.Loop.{pick}
@@ -19,7 +19,7 @@ use Rattle.refusal.specs.declared.Refusal.the-variants as refusal
 use Rattle.refusal.specs.Refusal.{numberOf}
 use Rattle.refusal.specs.declared.Verdict.{Verdict}
 use Rattle.refusal.specs.declared.Verdict.the-variants as verdict
-use Rattle.refusal.specs.Verdict.{asked}
+use Rattle.refusal.specs.Verdict.{asked, andThen}
 use Rattle.refusal.proofs.Laws.{number-positive}
 use Rattle.groups.specs.Groups.{holdsOf}
 use Rattle.groups.specs.declared.traced.Traced.{Traced}
@@ -94,7 +94,7 @@ module _ {a b : Patch} {tol : Tolerance} {l : List Float} {count start closing :
       rw (fits-claim (p .least) (p .most) (p .among) (code-small (p .closed)), le-leb (width1 * count) (length l) (p .lent), all-finite)
       (go (leb (fileBytes width1 count) (length before)))
     where
-      go : (t : Bool) → write.refusalOf (afterWriting version1 width1 l count start closing before (asked t refusal.Lent) .answer) ≡ pick t 0 (numberOf refusal.Lent)
+      go : (t : Bool) → write.refusalOf (afterWriting version1 width1 l count start closing before (andThen (asked t refusal.Lent) verdict.Passed) .answer) ≡ pick t 0 (numberOf refusal.Lent)
       go true = refl
       go false = refl
 
@@ -102,7 +102,7 @@ pub write-v1-promised : (l : List Float) (count start closing : ℕ) (before : L
     → filed r after ≡ writeOf version1 width1 l count start closing before → WriteV1Promise l count start closing before after r
 write-v1-promised l count start closing before d e =
     record {
-      write = write-promised version1 width1 l count start closing before d e;
+      writes = write-promised version1 width1 l count start closing before d e;
       passing = λ a b tol p. ap (λ (o : write.Filed). write.refusalOf (o .answer)) e ∙ passing-refused p before;
     }
 

@@ -104,7 +104,7 @@ pub record WritePromise (version w : ℕ) (l : List Float) (count start closing 
 
 -- the same for version 1, which has the numbers of a trace that the check reads
 pub record WriteV1Promise (l : List Float) (count start closing : ℕ) (before after : List ℕ) (r : Written) : Type 0 where
-  pub write : WritePromise version1 width1 l count start closing before after r
+  pub writes : WritePromise version1 width1 l count start closing before after r
   -- a trace that passes the check is written where there is room, and refused by 8 where there is not
   pub passing : (a b : Patch) (tol : Tolerance) → Passes a b tol l count start closing
       → write.refusalOf r ≡ pick (leb (fileBytes width1 count) (length before)) 0 (numberOf refusal.Lent)

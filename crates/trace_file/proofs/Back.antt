@@ -16,13 +16,14 @@ use Rattle.refusal.proofs.Laws.{number-positive}
 use Rattle.groups.specs.declared.traced.Traced.the-variants.{Line}
 use Rattle.groups.specs.Traced.{Outcome, outcome, refusalOf, countOf, startOf, closingOf}
 use Rattle.trace_file.specs.declared.write.Written.the-variants.{Bytes}
-use Rattle.trace_file.specs.Layout.{numbersPlace}
+use Rattle.groups.specs.Groups.{mostPoints}
+use Rattle.trace_file.specs.Layout.{numbersPlace, greatestCode, mostWidth}
 use Rattle.trace_file.specs.File.{fileOf, countIn, startIn, codeIn, numbersFrom, numbersIn, headerOf, numbersBytes}
-use Rattle.trace_file.specs.Write.{filed, writeOf}
+use Rattle.trace_file.specs.Write.{filed, bytesOf, writeFitness, afterWriting, writeOf}
 use Rattle.trace_file.specs.Read.{afterReading, readFitness, readOf}
-use Rattle.trace_file.proofs.Numbers.{from-length, numbers-back, numbers-again}
+use Rattle.trace_file.proofs.Numbers.{product-small, from-length, numbers-back, numbers-again}
 use Rattle.trace_file.proofs.Header.{version-back, count-back, start-back, code-back, length-back, behind-header, file-length, header-again}
-use Rattle.trace_file.proofs.Fitness.{WriteFit, fit-write, ReadFit, read-fit, fit-read}
+use Rattle.trace_file.proofs.Fitness.{claim-fits, WriteFit, write-fit, fit-write, ReadFit, read-fit, fit-read}
 
 -- ---- written, then read
 
@@ -121,6 +122,29 @@ read-is : (version w : ℕ) (s : List ℕ) (t : List Float) → ReadFit version 
     → readOf version w s t ≡ outcome (Line (countIn s) (startIn s) (codeIn s)) (written (numbersIn w s) t)
 unfolding readOf
 read-is version w s t f = rw (fit-read version w s (length t) f)
+
+-- what is read has the count, start and code that 20 lets through, and 0 for each where it refuses
+pub read-claim : (version w : ℕ) (s : List ℕ) (t : List Float)
+    → (let r = readOf version w s t .answer in (countOf r ≤ mostPoints) × (startOf r ≤ mostPoints) × (closingOf r ≤ greatestCode))
+unfolding readOf
+read-claim version w s t = go (readFitness version w s (length t)) refl
+  where
+    go : (v : Verdict) → readFitness version w s (length t) ≡ v
+        → (let r = afterReading w s t v .answer in (countOf r ≤ mostPoints) × (startOf r ≤ mostPoints) × (closingOf r ≤ greatestCode))
+    go verdict.Passed e = let k = claim-fits (read-fit version w s (length t) e .header .claim) in (k .1, omega (arith, k .1, k .2), k .3)
+    go (verdict.Refused r) e = (omega arith, omega arith, omega arith)
+
+-- what is written has few bytes
+pub write-small : (version w : ℕ) (l : List Float) (count start code : ℕ) (t : List ℕ) → w ≤ mostWidth → bytesOf (writeOf version w l count start code t .answer) ≤ 8388618
+unfolding writeOf
+write-small version w l count start code t h = go (writeFitness w l count start code (length t)) refl
+  where
+    go : (v : Verdict) → writeFitness w l count start code (length t) ≡ v → bytesOf (afterWriting version w l count start code t v .answer) ≤ 8388618
+    go verdict.Passed e =
+        let k = claim-fits (write-fit w l count start code (length t) e .claim) in
+        let n = product-small w count h (omega (arith, k .1)) in
+        omega (arith, n)
+    go (verdict.Refused r) e = omega arith
 
 -- what was read, written again
 pub read-again : (version w : ℕ) (s : List ℕ) → AllBytes s → (t : List Float) → refusalOf (readOf version w s t .answer) ≡ 0 → (u : List ℕ) → length s ≤ length u
