@@ -1,5 +1,5 @@
 -- The words of the trace file's writer and reader.
-use mathlib.Core.Path.{_≡_, sym, ap, _∙_}
+use mathlib.Core.Path.{_≡_, sym, ap, subst, _∙_}
 use mathlib.Core.List.{List}
 use Prim.Native.Nat.{ℕ, _+_, _*_, _/_, _%_, _<_}
 use native.Mathlib.Omega.{arith}
@@ -25,6 +25,10 @@ use Rattle.capi.proofs.Words.{parts}
 pub bytes-fit : {l : List Float} {count start closing : ℕ} {before after : List ℕ} {r : Written} → WriteV1Promise l count start closing before after r → bytesOf r < 4294967296
 bytes-fit {l} {count} {start} {closing} {before} p =
     rw (p .writes .answer) (let h = write-small version1 width1 l count start closing before (omega arith) in omega (arith, h))
+
+-- so a file's bytes have
+pub bytes-small : {r : Written} {n : ℕ} → r ≡ Bytes n → bytesOf r < 4294967296 → n < 4294967296
+bytes-small e h = subst (λ (q : Written). bytesOf q < 4294967296) e h
 
 -- its parts
 word-number : (r : Written) → numberIn (writtenWord r) ≡ refusalOf r
