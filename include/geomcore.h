@@ -6,8 +6,8 @@
  * A call demands of its input only what C cannot say (docs/TRUST.md):
  *   - A slice passes as a pointer and a length: not null, aligned for its type, good for that many elements. With length 0 it is not read,
  *     but still not null and aligned.
- *   - What is lent as `const` is not written, and `const` slices may overlap each other; `out` and `buffer` of a trace must overlap
- *     nothing else that the call is given. No thread may write what is lent before the call returns.
+ *   - What is lent as `const` is not written, and `const` slices may overlap each other; what is lent to be written (`out`, `buffer` of a
+ *     trace or of a reader, `file` of a writer) must overlap nothing else that the call is given. No thread may write what is lent before the call returns.
  *   - The calling thread's floating-point mode (MXCSR) rounds to nearest, flushes nothing to zero and has every trap masked. A program
  *     starts so; -ffast-math in any part linked, fesetround or feenableexcept change it, and then answers differ and lines that the check
  *     would refuse are traced. geomcore_mode_fit, geomcore_mode_set and geomcore_mode_restore below ask for it, set it and put it back.
@@ -27,6 +27,9 @@ extern "C" {
 /* The bytes of one surface in a job file, and of the whole file (docs/RULES.md, "The job file"). */
 #define GEOMCORE_SURFACE_BYTES 146
 #define GEOMCORE_JOB_BYTES 347
+
+/* The bytes of a trace file of version 1, of count points (docs/RULES.md, "The trace file"): 234 for 4, 224066 for 4001. */
+#define GEOMCORE_FILE_V1_BYTES(count) (10 + 56 * (size_t)(count))
 
 /* More than a call was seen to use of the stack (tools/limits.sh measures it). */
 #define GEOMCORE_STACK_BYTES 8192
@@ -81,6 +84,26 @@ uint64_t geomcore_check(const uint8_t *job, size_t bytes, const double *buffer, 
  * x, y, z, then high; fewer than six numbers given are refused by 8, before all else. */
 uint64_t geomcore_crossing(double confusion, double angular, const double *buffer, size_t lent, uint64_t count,
                            const double *corners, size_t given);
+
+/* The trace file, version 1: how office and unit pass a line. Big-endian: 4 bytes length of what follows (6 + 56 count), version byte 1,
+ * 2 bytes count, 2 bytes start's index, 1 byte closing code, then seven 8-byte numbers a point. One file stands for a trace: -0 and +0
+ * make two. It holds no surfaces: who reads a file checks the trace against the job that both have (geomcore_check).
+ *
+ * Writes count points of the buffer, seven numbers each, to the front of the file's room: the refusal's number + 2^32 times the bytes
+ * written, GEOMCORE_FILE_V1_BYTES(count). Tested in this order: 20 for a count outside 4 to 4001, a start not below the count or a code
+ * above 2; 8 for fewer than 7 count numbers lent or fewer bytes of room; 20 for a number that is not finite. A refusal writes nothing,
+ * and nothing beyond the file is written.
+ * Proved: the file, read into room enough, gives count, start, code and numbers back bit for bit; a trace that passes the check is
+ * refused at most by 8. */
+uint64_t geomcore_write_v1(const double *buffer, size_t lent, uint64_t count, uint64_t start, uint64_t code, uint8_t *file,
+                           size_t room);
+
+/* Reads a trace file of exactly so many bytes into the front of the buffer: the word of geomcore_trace, or the refusal's number. 20 for
+ * bytes that are no such file: fewer than 10, another version, a count, start, code or number that the writer refuses by 20, a length that
+ * does not agree with the count and with the bytes handed over, so that a byte too many is refused. Then 8 for fewer than 7 count numbers
+ * lent; 28007 are enough for any file. A refusal writes nothing, and nothing beyond the trace is written. It judges no geometry.
+ * Proved: a trace that was read, written again, gives the same file; no other file reads as that trace. */
+uint64_t geomcore_read_v1(const uint8_t *file, size_t bytes, double *buffer, size_t lent);
 
 #ifdef __cplusplus
 }

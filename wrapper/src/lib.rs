@@ -44,6 +44,16 @@ extern "C" {
         corners: *const f64,
         given: usize,
     ) -> u64;
+    fn geomcore_write_v1(
+        buffer: *const f64,
+        lent: usize,
+        count: u64,
+        start: u64,
+        code: u64,
+        file: *mut u8,
+        room: usize,
+    ) -> u64;
+    fn geomcore_read_v1(file: *const u8, bytes: usize, buffer: *mut f64, lent: usize) -> u64;
 }
 
 /// The bytes of one surface in a job file.
@@ -139,6 +149,26 @@ pub struct Line {
     pub closing: Closing,
 }
 
+impl Line {
+    /// The line, or the refusal, of a trace's or a reader's word.
+    fn of(word: u64) -> Result<Line, Refusal> {
+        if let Some(refusal) = Refusal::of(word, 0) {
+            return Err(refusal);
+        }
+        let closing = match word >> 8 & 0xff {
+            0 => Closing::Open,
+            1 => Closing::Forward,
+            _ => Closing::Backward,
+        };
+        let start = (word >> 16 & 0xffff) as usize;
+        Ok(Line {
+            count: (word >> 32) as usize,
+            start,
+            closing,
+        })
+    }
+}
+
 /// How many numbers the walk of a step cap asks for: seven for each of 2 cap + 1 points.
 pub const fn room(cap: u16) -> usize {
     7 * (2 * cap as usize + 1)
@@ -150,20 +180,7 @@ pub fn trace(job: &[u8], buffer: &mut [f64]) -> Result<Line, Refusal> {
     let word = guarded(|| unsafe {
         geomcore_trace(job.as_ptr(), job.len(), buffer.as_mut_ptr(), buffer.len())
     });
-    if let Some(refusal) = Refusal::of(word, 0) {
-        return Err(refusal);
-    }
-    let closing = match word >> 8 & 0xff {
-        0 => Closing::Open,
-        1 => Closing::Forward,
-        _ => Closing::Backward,
-    };
-    let start = (word >> 16 & 0xffff) as usize;
-    Ok(Line {
-        count: (word >> 32) as usize,
-        start,
-        closing,
-    })
+    Line::of(word)
 }
 
 /// Whether a line passes the check against the surfaces and tolerance of a job file; its guess and cap aren't read. Proved: it passes
@@ -208,4 +225,47 @@ pub fn crossing(
         )
     });
     Refusal::of(word, 0).map_or(Ok(word & 0x100 != 0), Err)
+}
+
+/// How many bytes a trace file of version 1 has.
+pub const fn file_v1_bytes(count: usize) -> usize {
+    10 + 56 * count
+}
+
+/// How many numbers are room enough for any trace file of version 1: seven for each of 4001 points.
+pub const FILE_V1_NUMBERS: usize = 7 * 4001;
+
+/// Writes a line's points, seven numbers each, to the front of `file` as a trace file of version 1: how many bytes it has. A refusal
+/// writes nothing: 20 for a line or a number that no file can hold, 8 for too few numbers or too few bytes. Proved: `read_v1` of those
+/// bytes gives the line and its numbers back bit for bit; a line that passes `check` is refused at most by 8.
+pub fn write_v1(buffer: &[f64], line: Line, file: &mut [u8]) -> Result<usize, Refusal> {
+    // SAFETY: each pointer comes with the length of what it was taken from; the callee keeps neither and writes `file` alone.
+    let word = guarded(|| unsafe {
+        geomcore_write_v1(
+            buffer.as_ptr(),
+            buffer.len(),
+            line.count as u64,
+            line.start as u64,
+            line.closing as u64,
+            file.as_mut_ptr(),
+            file.len(),
+        )
+    });
+    Refusal::of(word, 0).map_or(Ok((word >> 32) as usize), Err)
+}
+
+/// Reads a trace file of version 1, the whole of `file` and not a byte more, into the front of `buffer`. A refusal writes nothing: 20 for
+/// bytes that are no such file, then 8 for too few numbers. It judges no geometry: `check` does. Proved: `write_v1` of what was read gives
+/// the same bytes, and no other file reads as that line.
+pub fn read_v1(file: &[u8], buffer: &mut [f64]) -> Result<Line, Refusal> {
+    // SAFETY: each pointer comes with the length of what it was taken from; the callee keeps neither and writes `buffer` alone.
+    let word = guarded(|| unsafe {
+        geomcore_read_v1(
+            file.as_ptr(),
+            file.len(),
+            buffer.as_mut_ptr(),
+            buffer.len(),
+        )
+    });
+    Line::of(word)
 }

@@ -4,6 +4,7 @@
 //! has; the module of a kind says what a record is. `tools/lists.py` puts a list in its place.
 mod checks;
 mod crossings;
+mod files;
 mod jobs;
 mod roots;
 mod steps;
@@ -22,11 +23,11 @@ ghost use Prim.Native.Nat.{_≤_};
 ghost use lib.ListN.{length};
 ghost use Rattle.recorded.specs.Words.{recordBytes};
 
-const KINDS: usize = 10;
+const KINDS: usize = 11;
 
 const STRICT_MATH: u64 = 2;
 
-// The bytes of a record; of traces and checks those before the numbers.
+// The bytes of a record; of traces, checks and files those before the words that follow.
 fn size(kind: u64) -> usize
     ensures { λ r. ⌜ r ≤ 960 ⌝ }
 {
@@ -39,7 +40,8 @@ fn size(kind: u64) -> usize
         6 => 488,
         7 => 402,
         8 => traces::NUMBERS,
-        _ => checks::NUMBERS,
+        9 => checks::NUMBERS,
+        _ => files::NUMBERS,
     }
 }
 
@@ -50,6 +52,7 @@ fn numbers(kind: u64, bytes: &[u8]) -> usize
     match kind {
         8 => words::at_most(words::word(bytes, 8), traces::MOST),
         9 => words::at_most(words::word(bytes, 8), checks::MOST),
+        10 => words::at_most(words::word(bytes, 8), files::MOST),
         _ => 0,
     }
 }
@@ -79,7 +82,8 @@ fn same(kind: u64, bytes: &[u8]) -> bool
         6 => steps::same(bytes),
         7 => jobs::written(bytes),
         8 => traces::same(bytes),
-        _ => checks::same(bytes),
+        9 => checks::same(bytes),
+        _ => files::same(bytes),
     }
 }
 
@@ -107,7 +111,8 @@ fn report(kind: u64, t: Tally) {
         6 => tally::report(b"steps of the walk", t),
         7 => {}
         8 => tally::report(b"traces", t),
-        _ => tally::report(b"checks", t),
+        9 => tally::report(b"checks", t),
+        _ => tally::report(b"trace files", t),
     }
 }
 

@@ -4,10 +4,10 @@ use Rattle.replay.proofs.main.Statement.{statement}
 use Rattle.replay.proofs.main.Tie as tie
 
 abbrev Inv-loop : tie.InvT-loop
-Inv-loop counter₀ counter = counter ≤ 10
+Inv-loop counter₀ counter = counter ≤ 11
 
 abbrev μ-loop : tie.MeasureT-loop
-μ-loop counter₀ counter = 10 - counter
+μ-loop counter₀ counter = 11 - counter
 
 loop-holds : tie.Need-loop-holds Inv-loop μ-loop
 loop-holds c = search needs
