@@ -1,7 +1,7 @@
-use borrow.Author.Needs.{needs}
 use native.Mathlib.Omega.{arith}
-use Rattle.capi.proofs.Files.{bytes-small}
+use borrow.Author.Needs.{needs}
 use Rattle.capi.specs.File.{writtenWord}
+use Rattle.capi.proofs.Files.{bytes-small}
 use Rattle.capi.proofs.written_word.Statement.{statement}
 use Rattle.capi.proofs.written_word.Tie as tie
 

@@ -1,9 +1,9 @@
-use borrow.Author.Needs.{needs}
-use native.Mathlib.Omega.{arith}
 use Prim.Native.Nat.{_/_, _%_}
+use native.Mathlib.Omega.{arith}
 use denote.Ref.{now}
-use Rattle.loops.proofs.Over.{over-next}
+use borrow.Author.Needs.{needs}
 use Rattle.wire.specs.Wire.{twoBytes, fourBytes}
+use Rattle.loops.proofs.Over.{over-next}
 use Rattle.wire.proofs.Laws.{two-length}
 use Rattle.wire.proofs.put_four.Statement.{statement}
 use Rattle.wire.proofs.put_four.Tie as tie

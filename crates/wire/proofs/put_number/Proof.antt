@@ -1,4 +1,9 @@
+use mathlib.Core.Path.{ap, _∙_}
+use Prim.Native.Nat.{ℕ}
+use denote.Ref.{now}
 use borrow.Author.Needs.{needs}
+use Rattle.wire.specs.Wire.{eightBytes, numberBytes}
+use Rattle.loops.specs.Over.{over}
 use Rattle.wire.specs.Wire.{numberBytes}
 use Rattle.wire.proofs.put_number.Statement.{statement}
 use Rattle.wire.proofs.put_number.Tie as tie
@@ -14,7 +19,10 @@ same-length c = search needs
 
 returns : tie.Need-returns
 unfolding numberBytes
-returns c = rw (← c .before .before .before .to-bits .ensures) (c .before .before .put-eight .ensures)
+returns c =
+    let p = c .before .before in
+    let g = p .before .before .before .before .args in
+    p .put-eight .ensures ∙ ap (λ (n : ℕ). over (now (g .bytes)) (g .at) (eightBytes n)) (p .before .to-bits .ensures)
 
 pub put-number-spec : {M : Type 1} → statement M
 put-number-spec = tie.close (tie.spec to-bits-requires put-eight-requires same-length returns)

@@ -1,7 +1,7 @@
-use borrow.Author.Needs.{needs}
 use native.Mathlib.Numerals.{towards-suc}
-use denote.Ref.{now}
 use lib.Seq.{sets-eq}
+use denote.Ref.{now}
+use borrow.Author.Needs.{needs}
 use Rattle.wire.specs.Wire.{oneByte}
 use Rattle.wire.proofs.put_one.Statement.{statement}
 use Rattle.wire.proofs.put_one.Tie as tie

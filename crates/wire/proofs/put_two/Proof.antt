@@ -1,10 +1,10 @@
-use borrow.Author.Needs.{needs}
-use native.Mathlib.Omega.{arith}
 use mathlib.Core.Path.{refl}
 use Prim.Native.Nat.{_/_, _%_}
+use native.Mathlib.Omega.{arith}
 use denote.Ref.{now}
-use Rattle.loops.proofs.Over.{over-next}
+use borrow.Author.Needs.{needs}
 use Rattle.wire.specs.Wire.{oneByte, twoBytes}
+use Rattle.loops.proofs.Over.{over-next}
 use Rattle.wire.proofs.put_two.Statement.{statement}
 use Rattle.wire.proofs.put_two.Tie as tie
 

@@ -1,6 +1,6 @@
 -- What the file stands for is `read-promised`.
-use borrow.Author.Needs.{needs}
 use denote.Ref.{now}
+use borrow.Author.Needs.{needs}
 use Rattle.trace_file.specs.Layout.{version1, width1}
 use Rattle.passing.proofs.Filed.{read-promised}
 use Rattle.geomcore.proofs.call.read_v1.Statement.{statement}

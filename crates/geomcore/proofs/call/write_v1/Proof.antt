@@ -1,6 +1,6 @@
 -- What the file stands for is `write-v1-promised`.
-use borrow.Author.Needs.{needs}
 use denote.Ref.{now}
+use borrow.Author.Needs.{needs}
 use Rattle.passing.proofs.Filed.{write-v1-promised}
 use Rattle.geomcore.proofs.call.write_v1.Statement.{statement}
 use Rattle.geomcore.proofs.call.write_v1.Tie as tie

@@ -1,5 +1,5 @@
-use borrow.Author.Needs.{needs}
 use native.Mathlib.Omega.{arith}
+use borrow.Author.Needs.{needs}
 use Rattle.trace_file.proofs.Numbers.{product-small}
 use Rattle.trace_file.proofs.layout.following.Statement.{statement}
 use Rattle.trace_file.proofs.layout.following.Tie as tie

@@ -1,14 +1,14 @@
-use borrow.Author.Tests.{not-true, not-false}
+use mathlib.Core.Path.{_≡_, refl, sym, ap, _∙_}
+use Prim.Native.Nat.{_-_, _≤_}
+use native.Mathlib.Omega.{arith}
 use lib.Ieee.Scale.{finite}
 use lib.ListN.{drop}
 use denote.Ref.{now}
-use Prim.Native.Nat.{_-_, _≤_}
-use mathlib.Core.Path.{_≡_, refl, sym, ap, _∙_}
+use borrow.Author.Tests.{not-true, not-false}
 use borrow.Author.Needs.{needs}
-use native.Mathlib.Omega.{arith}
-use Rattle.trace_file.proofs.Numbers.{finite-out, finite-on, finite-done, from-length, from-at}
 use Rattle.trace_file.specs.File.{allFinite, numbersFrom}
 use Rattle.trace_file.specs.Layout.{numbersPlace}
+use Rattle.trace_file.proofs.Numbers.{finite-out, finite-on, finite-done, from-length, from-at}
 use Rattle.trace_file.proofs.read.all_finite.Statement.{statement}
 use Rattle.trace_file.proofs.read.all_finite.Tie as tie
 

@@ -1,19 +1,21 @@
 use borrow.Author.Tests.{eq-eqb, ne-eqb, le-leb, lt-leb}
 use borrow.Author.Needs.{needs}
+use Rattle.trace_file.specs.Layout.{numbersPlace}
 use Rattle.trace_file.specs.File.{headerFits}
+use Rattle.loops.proofs.Choice.{and-taken, and-left}
 use Rattle.trace_file.proofs.read.header_fits.Statement.{statement}
 use Rattle.trace_file.proofs.read.header_fits.Tie as tie
 
 returns : tie.Need-returns
 unfolding headerFits
-returns c = rw (lt-leb _ _ (c .if1 .taken))
+returns c = rw (lt-leb numbersPlace _ (c .if1 .taken))
 
 one-requires : tie.Need-one-requires
 one-requires c κs = search needs
 
 returns-2 : tie.Need-returns-2
 unfolding headerFits
-returns-2 c = rw (le-leb _ _ (c .before .before .if1 .left), ← c .before .one .ensures .0, ne-eqb _ _ (c .if2 .taken))
+returns-2 c = rw (le-leb numbersPlace _ (c .before .before .if1 .left), ← c .before .one .ensures .0, ne-eqb (c .before .one .result) _ (c .if2 .taken))
 
 count-in-requires : tie.Need-count-in-requires
 count-in-requires c κs = search needs
@@ -38,7 +40,8 @@ returns-3 c =
     let s = d .before in
     let n = s .before in
     let v = n .before in
-    rw (le-leb _ _ (v .before .before .if1 .left), ← v .before .one .ensures .0, eq-eqb _ _ (v .if2 .left), ← n .count-in .ensures .0, ← s .start-in .ensures, ← d .code-in .ensures, ← k .claim-fits .ensures, c .before .if3 .taken) (c .length-agrees .ensures)
+    rw (le-leb numbersPlace _ (v .before .before .if1 .left), ← v .before .one .ensures .0, eq-eqb (v .before .one .result) _ (v .if2 .left), ← n .count-in .ensures .0, ← s .start-in .ensures, ← d .code-in .ensures)
+    (and-taken (k .claim-fits .ensures) (c .before .if3 .taken) (c .length-agrees .ensures))
 
 returns-4 : tie.Need-returns-4
 unfolding headerFits
@@ -48,7 +51,8 @@ returns-4 c =
     let s = d .before in
     let n = s .before in
     let v = n .before in
-    rw (le-leb _ _ (v .before .before .if1 .left), ← v .before .one .ensures .0, eq-eqb _ _ (v .if2 .left), ← n .count-in .ensures .0, ← s .start-in .ensures, ← d .code-in .ensures, ← k .claim-fits .ensures, c .if3 .left)
+    rw (le-leb numbersPlace _ (v .before .before .if1 .left), ← v .before .one .ensures .0, eq-eqb (v .before .one .result) _ (v .if2 .left), ← n .count-in .ensures .0, ← s .start-in .ensures, ← d .code-in .ensures)
+    (and-left _ (k .claim-fits .ensures) (c .if3 .left))
 
 pub header-fits-spec : {M : Type 1} → statement M
 header-fits-spec =

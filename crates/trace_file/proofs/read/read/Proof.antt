@@ -1,12 +1,12 @@
-use denote.Ref.{now}
 use mathlib.Core.Path.{sym, ap, _∙_}
-use borrow.Author.Needs.{needs}
 use native.Mathlib.Omega.{arith}
 use lib.ListN.{length}
-use Rattle.trace_file.proofs.Numbers.{product-small}
+use denote.Ref.{now}
+use borrow.Author.Needs.{needs}
 use Rattle.trace_file.specs.Read.{readOf}
 use Rattle.groups.specs.Traced.{outcome}
 use Rattle.groups.specs.declared.traced.Traced.the-variants.{Line}
+use Rattle.trace_file.proofs.Numbers.{product-small}
 use Rattle.trace_file.proofs.Fitness.{ReadFit, read-fit}
 use Rattle.trace_file.proofs.read.read.Statement.{statement}
 use Rattle.trace_file.proofs.read.read.Tie as tie

@@ -1,11 +1,14 @@
+use mathlib.Core.Path.{sym, subst, _∙_}
+use Prim.Native.Nat.{ℕ, _+_, _*_, _≤_}
+use native.Mathlib.Omega.{arith}
+use lib.ListN.{length}
+use denote.Ref.{now}
 use borrow.Author.Tests.{not-true, not-false, le-leb, lt-leb}
 use borrow.Author.Needs.{needs}
-use native.Mathlib.Omega.{arith}
-use mathlib.Core.Path.{sym, _∙_}
-use denote.Ref.{now}
+use Rattle.trace_file.specs.Layout.{numbersPlace}
+use Rattle.trace_file.specs.Read.{readFitness}
 use Rattle.trace_file.proofs.Fitness.{HeaderFit, header-fits}
 use Rattle.trace_file.proofs.Numbers.{product-small}
-use Rattle.trace_file.specs.Read.{readFitness}
 use Rattle.trace_file.proofs.read.read_fitness.Statement.{statement}
 use Rattle.trace_file.proofs.read.read_fitness.Tie as tie
 
@@ -31,7 +34,10 @@ mul-n : tie.Need-mul-n
 mul-n c = let h = product-small (c .before .before .before .before .args .width) (c .count-in .result) (c .before .before .before .before .pre) (c .count-in .ensures .1) in omega (arith, h)
 
 all-finite-requires : tie.Need-all-finite-requires
-all-finite-requires c κs = let e = c .count-in .ensures .0 in let b = header (c .before) .bytes in rw e (omega (arith, b))
+all-finite-requires c κs =
+    let g = start (c .before) .args in
+    let b = header (c .before) .bytes in
+    subst (λ (k : ℕ). numbersPlace + 8 * (g .width * k) ≤ length (now (g .file))) (sym (c .count-in .ensures .0)) (omega (arith, b))
 
 returns-2 : tie.Need-returns-2
 unfolding readFitness

@@ -1,15 +1,15 @@
-use borrow.Author.Tests.{not-true, not-false}
+use mathlib.Core.Path.{_≡_, refl, sym, ap, _∙_}
+use Prim.Native.Nat.{_-_, _≤_}
+use native.Mathlib.Omega.{arith}
 use lib.Seq.{getD-take, length-take-le}
 use lib.Ieee.Scale.{finite}
 use lib.Ieee.{nan}
 use lib.ListN.{take, drop}
 use denote.Ref.{now}
-use Prim.Native.Nat.{_-_, _≤_}
-use mathlib.Core.Path.{_≡_, refl, sym, ap, _∙_}
+use borrow.Author.Tests.{not-true, not-false}
 use borrow.Author.Needs.{needs}
-use native.Mathlib.Omega.{arith}
-use Rattle.trace_file.proofs.Numbers.{finite-out, finite-on, finite-done}
 use Rattle.trace_file.specs.File.{allFinite}
+use Rattle.trace_file.proofs.Numbers.{finite-out, finite-on, finite-done}
 use Rattle.trace_file.proofs.write.all_finite.Statement.{statement}
 use Rattle.trace_file.proofs.write.all_finite.Tie as tie
 

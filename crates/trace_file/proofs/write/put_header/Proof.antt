@@ -1,10 +1,10 @@
-use denote.Ref.{now}
-use Prim.Native.Nat.{ℕ}
 use mathlib.Core.Path.{ap, _∙_}
+use Prim.Native.Nat.{ℕ}
+use denote.Ref.{now}
 use borrow.Author.Needs.{needs}
-use Rattle.trace_file.proofs.Header.{header-put}
 use Rattle.wire.specs.Wire.{fourBytes}
 use Rattle.loops.specs.Over.{over}
+use Rattle.trace_file.proofs.Header.{header-put}
 use Rattle.trace_file.proofs.write.put_header.Statement.{statement}
 use Rattle.trace_file.proofs.write.put_header.Tie as tie
 

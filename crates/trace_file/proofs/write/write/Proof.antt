@@ -1,15 +1,20 @@
-use denote.Ref.{now}
-use mathlib.Core.Path.{sym, ap, _∙_}
-use borrow.Author.Needs.{needs}
+use mathlib.Core.Path.{_≡_, sym, _∙_}
+use mathlib.Core.List.{List}
+use Prim.Native.Nat.{ℕ}
 use native.Mathlib.Omega.{arith}
 use lib.ListN.{length}
+use denote.Ref.{now}
+use borrow.Author.Needs.{needs}
+use Rattle.trace_file.specs.Write.{filed, writeOf}
+use Rattle.trace_file.specs.declared.write.Written.the-variants.{Bytes}
 use Rattle.trace_file.proofs.Fitness.{claim-fits, WriteFit, write-fit}
 use Rattle.trace_file.proofs.Header.{file-put}
 use Rattle.trace_file.proofs.Numbers.{product-small}
-use Rattle.trace_file.specs.Write.{filed, writeOf}
-use Rattle.trace_file.specs.declared.write.Written.the-variants.{Bytes}
 use Rattle.trace_file.proofs.write.write.Statement.{statement}
 use Rattle.trace_file.proofs.write.write.Tie as tie
+
+told : {n m : ℕ} {s t : List ℕ} → n ≡ m → s ≡ t → filed (Bytes n) s ≡ filed (Bytes m) t
+told e f = rw (e, f)
 
 -- where nothing is refused
 module _ (c : tie.After-enum-told) where
@@ -59,8 +64,9 @@ returns-2 c =
     let h = n .before .before .before .before in
     let e = h .before .before in
     let g = start e .args in
-    rw (← e .before .before .write-fitness .ensures, e .enum-told .given .1, ← c .file-bytes .ensures)
-    (ap (filed (Bytes (c .file-bytes .result))) (file-put (now (g .file)) (g .version) (g .width) (now (g .numbers)) (g .count) (g .start) (g .code) (h .put-header .ensures) (n .put-numbers .ensures)))
+    let put = file-put (now (g .file)) (g .version) (g .width) (now (g .numbers)) (g .count) (g .start) (g .code) (h .put-header .ensures) (n .put-numbers .ensures) in
+    rw (← e .before .before .write-fitness .ensures, e .enum-told .given .1)
+    (told (c .file-bytes .ensures) put)
 
 pub write-spec : {M : Type 1} → statement M
 write-spec =

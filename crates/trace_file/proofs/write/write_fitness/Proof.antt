@@ -1,9 +1,9 @@
+use native.Mathlib.Omega.{arith}
 use borrow.Author.Tests.{not-true, not-false, le-leb, lt-leb}
 use borrow.Author.Needs.{needs}
-use native.Mathlib.Omega.{arith}
-use Rattle.trace_file.proofs.Fitness.{small}
 use Rattle.trace_file.specs.Write.{writeFitness}
 use Rattle.groups.specs.Groups.{holdsOf}
+use Rattle.trace_file.proofs.Fitness.{small}
 use Rattle.trace_file.proofs.write.write_fitness.Statement.{statement}
 use Rattle.trace_file.proofs.write.write_fitness.Tie as tie
 
@@ -41,7 +41,7 @@ mul-all-finite : tie.Need-mul-all-finite
 mul-all-finite c = search needs
 
 all-finite-requires : tie.Need-all-finite-requires
-all-finite-requires c κs = search needs
+all-finite-requires c κs = c .before .before .if2 .left
 
 returns-4 : tie.Need-returns-4
 unfolding writeFitness holdsOf
