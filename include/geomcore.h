@@ -7,7 +7,8 @@
  *   - A slice passes as a pointer and a length: not null, aligned for its type, good for that many elements. With length 0 it is not read,
  *     but still not null and aligned.
  *   - What is lent as `const` is not written, and `const` slices may overlap each other; what is lent to be written (`out`, `buffer` of a
- *     trace or of a reader, `file` of a writer) must overlap nothing else that the call is given. No thread may write what is lent before the call returns.
+ *     trace or of a reader, `file` of a writer) must overlap nothing else that the call is given. No thread may write what is lent before
+ *     the call returns.
  *   - The calling thread's floating-point mode (MXCSR) rounds to nearest, flushes nothing to zero and has every trap masked. A program
  *     starts so; -ffast-math in any part linked, fesetround or feenableexcept change it, and then answers differ and lines that the check
  *     would refuse are traced. geomcore_mode_fit, geomcore_mode_set and geomcore_mode_restore below ask for it, set it and put it back.

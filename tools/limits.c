@@ -1,6 +1,6 @@
-/* What calls use: reads job files of 347 bytes each from standard input, traces and checks each on a stack of its own that was painted
- * before, and prints the most of the stack that a call used (from where it was called, its return address included) and the longest time.
- * tools/limits.sh builds and runs it. */
+/* What calls use: reads job files of 347 bytes each from standard input, traces and checks each, writes its line to a trace file and reads
+ * that, each call on a stack of its own that was painted before, and prints the most of the stack that a call used (from where it was called,
+ * its return address included) and the longest time. tools/limits.sh builds and runs it. */
 #include <geomcore.h>
 #include <stdio.h>
 #include <string.h>
@@ -13,6 +13,7 @@
 static _Alignas(64) unsigned char stack[STACK];
 static uint8_t job[GEOMCORE_JOB_BYTES];
 static double buffer[ROOM];
+static uint8_t file[GEOMCORE_FILE_V1_BYTES(4001)];
 static volatile uint64_t word; /* volatile: the compiler does not see that the assembly below calls functions of this file */
 static char *volatile called_from;
 
@@ -48,6 +49,16 @@ static void do_point(void) {
     double p[3];
     HERE();
     word = geomcore_point(job + 5, GEOMCORE_SURFACE_BYTES, 0.3, 0.1, p, 3);
+}
+
+static void do_write(void) {
+    HERE();
+    word = geomcore_write_v1(buffer, ROOM, word >> 32, word >> 16 & 65535, word >> 8 & 255, file, sizeof file);
+}
+
+static void do_read(void) {
+    HERE();
+    word = geomcore_read_v1(file, word >> 32, buffer, ROOM);
 }
 
 static double now(void) {
@@ -86,7 +97,9 @@ int main(void) {
     struct most all[] = {{"geomcore_trace", do_trace, 0, 0, 0, 0},
                          {"geomcore_check", do_check, 0, 0, 0, 0},
                          {"geomcore_crossing", do_crossing, 0, 0, 0, 0},
-                         {"geomcore_point", do_point, 0, 0, 0, 0}};
+                         {"geomcore_point", do_point, 0, 0, 0, 0},
+                         {"geomcore_write_v1", do_write, 0, 0, 0, 0},
+                         {"geomcore_read_v1", do_read, 0, 0, 0, 0}};
     long lines = 0, points = 0, most_points = 0;
     for (long i = 0; fread(job, 1, sizeof job, stdin) == sizeof job; i++) {
         measure(&all[3], i);
@@ -105,9 +118,16 @@ int main(void) {
         }
         word = line;
         measure(&all[2], i);
+        word = line;
+        measure(&all[4], i);
+        measure(&all[5], i);
+        if (word != line) {
+            printf("job %ld: the line that was written and read is another\n", i);
+            return 1;
+        }
     }
     printf("%ld lines of %ld points, the longest of %ld\n", lines, points, most_points);
-    for (int k = 0; k < 4; k++)
+    for (int k = 0; k < 6; k++)
         printf("%-18s %8ld calls, at most %5ld bytes of stack, %.3f ms (job %ld)\n", all[k].name, all[k].calls, all[k].bytes,
                1e3 * all[k].seconds, all[k].job);
     return 0;

@@ -15,6 +15,7 @@ import sys
 HEADER = struct.Struct(">IBHHB")  # the length of what follows, version, count, start index, code
 VERSION, WIDTH = 1, 7
 LEAST, MOST = 4, 4001
+JOB = 347  # the bytes of a job file, which begins likewise and has no 4 points
 CODES = ("open", "closed forward", "closed backward")
 NAMES = ("x", "y", "z", "u on A", "v on A", "u on B", "v on B")
 
@@ -30,6 +31,9 @@ def header_faults(data):
         yield f"{len(data)} bytes: a trace file has {HEADER.size} before its numbers"
         return
     length, version, count, start, code = HEADER.unpack_from(data)
+    if len(data) == JOB and length == JOB - 4:
+        yield "a job file, not a trace file"
+        return
     if version != VERSION:
         yield f"version {version}: only version {VERSION} is read here"
         return

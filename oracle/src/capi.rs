@@ -88,3 +88,39 @@ pub(crate) fn point(surface: &[u8], u: f64, v: f64, out: &mut [f64]) -> u64 {
     // SAFETY: as in `crossing`.
     unsafe { geomcore_point(surface.as_ptr(), bytes, u, v, out.as_mut_ptr(), outputs) }
 }
+
+unsafe extern "C" {
+    fn geomcore_write_v1(
+        buffer: *const f64,
+        lent: usize,
+        count: u64,
+        start: u64,
+        code: u64,
+        file: *mut u8,
+        room: usize,
+    ) -> u64;
+    fn geomcore_read_v1(file: *const u8, bytes: usize, buffer: *mut f64, lent: usize) -> u64;
+}
+
+/// The answer word of the trace file's writer.
+pub(crate) fn write(buffer: &[f64], count: u64, start: u64, code: u64, file: &mut [u8]) -> u64 {
+    let (lent, room) = (buffer.len(), file.len());
+    // SAFETY: as in `crossing`.
+    unsafe {
+        geomcore_write_v1(
+            buffer.as_ptr(),
+            lent,
+            count,
+            start,
+            code,
+            file.as_mut_ptr(),
+            room,
+        )
+    }
+}
+
+/// The answer word of the trace file's reader.
+pub(crate) fn read(file: &[u8], buffer: &mut [f64]) -> u64 {
+    // SAFETY: as in `crossing`.
+    unsafe { geomcore_read_v1(file.as_ptr(), file.len(), buffer.as_mut_ptr(), buffer.len()) }
+}

@@ -3,6 +3,7 @@
 mod capi;
 mod check;
 pub mod compare;
+mod file;
 mod frame;
 mod intersect;
 mod job;

@@ -6,7 +6,7 @@ use crate::compare::jobs::timed;
 use crate::intersect::marching::Chords;
 use crate::random::Random;
 use crate::trace::{WIDTH, answer, need, unpacked};
-use crate::{capi, check, ours};
+use crate::{capi, check, file, ours};
 use std::hint::black_box;
 
 const KINDS: [&str; 5] = ["plane", "cylinder", "cone", "sphere", "torus"];
@@ -199,9 +199,65 @@ fn traces(rounds: u32) {
     }
 }
 
+type Write = fn(&[f64], u64, u64, u64, &mut [u8]) -> u64;
+type Read = fn(&[u8], &mut [f64]) -> u64;
+
+/// Trace files of the lines of ten jobs of each pair of kinds, written and read: nanoseconds a point.
+fn files(rounds: u32) {
+    let mut r = Random::new(14);
+    let of: Vec<Line> = (0..25)
+        .flat_map(|k| lines(&mut r, [k / 5, k % 5], 10))
+        .collect();
+    let room = 10 + 8 * need(100);
+    let written = |f: Write, l: &Line, file: &mut [u8]| {
+        let (count, start, code) = l.claim;
+        f(&l.trace, count, start, code, file)
+    };
+    let whole: Vec<Vec<u8>> = of
+        .iter()
+        .map(|l| {
+            let (mut file, mut other) = (vec![1; room], vec![1; room]);
+            let said = written(capi::write, l, &mut file);
+            assert_eq!(said, written(file::write, l, &mut other));
+            assert_eq!(file, other);
+            file.truncate((said >> 32) as usize);
+            file
+        })
+        .collect();
+    let (mut out, mut other) = (vec![1.0; need(100)], vec![1.0; need(100)]);
+    for f in &whole {
+        assert_eq!(capi::read(f, &mut out), file::read(f, &mut other));
+        assert_eq!(out, other);
+    }
+    table("trace file, a point");
+    let (mut a, mut b) = (vec![0; room], vec![0; room]);
+    let write = |f: Write, file: &mut [u8]| {
+        of.iter()
+            .for_each(|l| _ = black_box(written(black_box(f), l, file)))
+    };
+    let best = least(
+        rounds,
+        || write(capi::write, &mut a),
+        || write(file::write, &mut b),
+    );
+    row("written", best, points(&of));
+    let read = |f: Read, out: &mut [f64]| {
+        whole
+            .iter()
+            .for_each(|file| _ = black_box(black_box(f)(file, out)))
+    };
+    let best = least(
+        rounds,
+        || read(capi::read, &mut out),
+        || read(file::read, &mut other),
+    );
+    row("read", best, points(&of));
+}
+
 /// Prints the tables. Short passes get more rounds.
 pub fn run(rounds: u32) {
     numbers(100 * rounds);
     crossings(20 * rounds);
     traces(rounds);
+    files(20 * rounds);
 }

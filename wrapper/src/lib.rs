@@ -260,12 +260,7 @@ pub fn write_v1(buffer: &[f64], line: Line, file: &mut [u8]) -> Result<usize, Re
 pub fn read_v1(file: &[u8], buffer: &mut [f64]) -> Result<Line, Refusal> {
     // SAFETY: each pointer comes with the length of what it was taken from; the callee keeps neither and writes `buffer` alone.
     let word = guarded(|| unsafe {
-        geomcore_read_v1(
-            file.as_ptr(),
-            file.len(),
-            buffer.as_mut_ptr(),
-            buffer.len(),
-        )
+        geomcore_read_v1(file.as_ptr(), file.len(), buffer.as_mut_ptr(), buffer.len())
     });
     Line::of(word)
 }

@@ -153,3 +153,87 @@ fn functions() {
     assert_eq!(geomcore::cos(0.0), 1.0);
     assert_eq!(geomcore::atan2(0.0, 1.0), 0.0);
 }
+
+/// A line of example 10 to a file and back.
+#[test]
+fn file_of_example_10() {
+    let job = example();
+    let mut buffer = vec![1.0; geomcore::room(500)];
+    let line = geomcore::trace(&job, &mut buffer).unwrap();
+    let mut file = vec![0xa5; geomcore::file_v1_bytes(line.count) + 3];
+    assert_eq!(geomcore::write_v1(&buffer, line, &mut file), Ok(290));
+    assert_eq!(file[..10], [0, 0, 1, 30, 1, 0, 5, 0, 2, 0]);
+    assert_eq!(file[290..], [0xa5; 3]);
+    file.truncate(290);
+    let mut read = vec![2.0; geomcore::FILE_V1_NUMBERS];
+    assert_eq!(geomcore::read_v1(&file, &mut read), Ok(line));
+    assert_eq!(read[..35], buffer[..35]);
+    assert!(read[35..].iter().all(|x| *x == 2.0));
+    assert_eq!(geomcore::check(&job, &read, line), Ok(()));
+}
+
+/// What the writer refuses, in its order, with nothing written.
+#[test]
+fn refused_by_the_writer() {
+    use geomcore::{Closing, Line};
+    let line = |count, start| Line {
+        count,
+        start,
+        closing: Closing::Backward,
+    };
+    let mut numbers = [0.5; 28];
+    let number = |numbers: &[f64], line, room: usize| {
+        let mut file = vec![7; room];
+        let answer = geomcore::write_v1(numbers, line, &mut file);
+        assert!(answer.is_ok() || file == vec![7; room]);
+        answer.map_or_else(|refusal| refusal.number, |_| 0)
+    };
+    assert_eq!(number(&numbers, line(4, 3), 234), 0);
+    assert_eq!(number(&numbers, line(3, 0), 234), 20);
+    assert_eq!(number(&numbers, line(4, 4), 234), 20);
+    assert_eq!(number(&numbers, line(4002, 0), 0), 20);
+    assert_eq!(number(&numbers, line(4001, 0), 0), 8);
+    assert_eq!(number(&numbers, line(usize::MAX, 0), 0), 20);
+    assert_eq!(number(&numbers[1..], line(4, 0), 234), 8);
+    assert_eq!(number(&numbers, line(4, 0), 233), 8);
+    numbers[27] = f64::INFINITY;
+    assert_eq!(number(&numbers, line(4, 0), 233), 8);
+    assert_eq!(number(&numbers, line(4, 0), 234), 20);
+}
+
+/// What the reader refuses, in its order, with nothing written; -0 and +0 make two files.
+#[test]
+fn refused_by_the_reader() {
+    use geomcore::{Closing, Line};
+    let line = Line {
+        count: 4,
+        start: 1,
+        closing: Closing::Open,
+    };
+    let mut file = vec![0; 234];
+    let numbers = [-0.0; 28];
+    assert_eq!(geomcore::write_v1(&numbers, line, &mut file), Ok(234));
+    let number = |file: &[u8], room: usize| {
+        let mut out = vec![3.0; room];
+        let answer = geomcore::read_v1(file, &mut out);
+        assert!(answer.is_ok() || out == vec![3.0; room]);
+        answer.map_or_else(|refusal| refusal.number, |_| 0)
+    };
+    assert_eq!(number(&file, 28), 0);
+    assert_eq!(number(&file, 27), 8);
+    assert_eq!(number(&file[..233], 27), 20);
+    assert_eq!(number(&[&file[..], &[0]].concat(), 28), 20);
+    assert_eq!(number(&[], 0), 20);
+    for (at, value) in [(0, 1), (3, 231), (4, 2), (6, 5), (8, 4), (9, 3)] {
+        let mut other = file.clone();
+        other[at] = value;
+        assert_eq!(number(&other, 100), 20, "byte {at}");
+    }
+    let mut other = file.clone();
+    other[226..].copy_from_slice(&f64::NAN.to_be_bytes());
+    assert_eq!(number(&other, 27), 20);
+    other[226..].copy_from_slice(&0f64.to_be_bytes());
+    let mut out = [1.0; 28];
+    assert_eq!(geomcore::read_v1(&other, &mut out), Ok(line));
+    assert!(out[27].to_bits() == 0 && out[26].to_bits() == 1 << 63);
+}

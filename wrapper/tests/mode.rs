@@ -103,6 +103,14 @@ fn answers(job: &[u8]) -> Vec<u64> {
         )
     };
     bits.extend([0.1, 0.9].map(|y| u64::from(crossed(y).unwrap())));
+    // a subnormal number in the file, which a mode that flushes to zero would lose
+    buffer[0] = 5e-324;
+    let mut file = vec![0; geomcore::file_v1_bytes(line.count)];
+    bits.push(geomcore::write_v1(&buffer, line, &mut file).unwrap() as u64);
+    bits.extend(file.iter().map(|byte| u64::from(*byte)));
+    buffer.fill(0.0);
+    assert_eq!(geomcore::read_v1(&file, &mut buffer), Ok(line));
+    bits.extend(buffer.iter().map(|x| x.to_bits()));
     bits
 }
 
@@ -207,4 +215,7 @@ fn slices_of_no_length() {
     assert_eq!(geomcore::check(&job, &[], line).unwrap_err().number, 8);
     let crossed = geomcore::crossing(1e-7, 1e-12, &[], 4, [0.0; 3], [0.0; 3]);
     assert_eq!(crossed.unwrap_err().number, 8);
+    let written = geomcore::write_v1(&[], line, &mut []);
+    assert_eq!(written.unwrap_err().number, 8);
+    assert_eq!(geomcore::read_v1(&[], &mut []).unwrap_err().number, 20);
 }
