@@ -50,6 +50,7 @@ run() {
 for part in fdlibm solve surface patch marching crossing trace check; do
     run "$part" oracle/target/release/compare "$part" "$seed" "$count"
 done
+run file tools/compare_file.sh "$seed" "$count"
 run sqrt tools/compare_sqrt.sh "$seed" $((10 * count))
 run strictmath tools/compare_fdlibm.sh "$seed" $((10 * count))
 exit $status

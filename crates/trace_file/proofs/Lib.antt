@@ -2,3 +2,4 @@ pub mod Numbers
 pub mod Header
 pub mod Fitness
 pub mod Back
+pub mod Evaluated
