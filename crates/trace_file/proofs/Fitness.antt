@@ -114,4 +114,12 @@ module _ (version w : ℕ) (s : List ℕ) where
     unfolding readFitness headerFits lengthAgrees
     fit-read f =
         let h = f .header in
-        rw (le-leb numbersPlace (length s) (h .there), eq-eqb (byteAt s versionPlace) version (h .versioned), h .claim, eq-eqb (fourAt s 0) (following w (countIn s)) (h .long), eq-eqb (length s) (fileBytes w (countIn s)) (h .bytes), f .finite, le-leb (w * countIn s) room (f .holds))
+        rw (
+          le-leb numbersPlace (length s) (h .there),
+          eq-eqb (byteAt s versionPlace) version (h .versioned),
+          h .claim,
+          eq-eqb (fourAt s 0) (following w (countIn s)) (h .long),
+          eq-eqb (length s) (fileBytes w (countIn s)) (h .bytes),
+          f .finite,
+          le-leb (w * countIn s) room (f .holds),
+        )

@@ -87,4 +87,15 @@ pub header-again : (s : List ℕ) (w : ℕ) → AllBytes s → numbersPlace ≤ 
     → headerOf (byteAt s versionPlace) w (countIn s) (startIn s) (codeIn s) ≡ take numbersPlace s
 unfolding headerOf
 header-again s w d h e =
-    rw (← e, four-again s 0 d (omega arith), one-again s 4 d (omega arith), two-again s 5 d (omega arith), two-again s 7 d (omega arith), one-again s 9 d (omega arith), ← take-add 4 1 s, ← take-add 5 2 s, ← take-add 7 2 s, ← take-add 9 1 s)
+    rw (
+      ← e,
+      four-again s 0 d (omega arith),
+      one-again s 4 d (omega arith),
+      two-again s 5 d (omega arith),
+      two-again s 7 d (omega arith),
+      one-again s 9 d (omega arith),
+      ← take-add 4 1 s,
+      ← take-add 5 2 s,
+      ← take-add 7 2 s,
+      ← take-add 9 1 s,
+    )

@@ -27,7 +27,8 @@ returns c =
     let p = q .before .before .before .before in
     let s = p .before .before .before in
     let g = s .args in
-    over-next (now (g .bytes)) (g .at) 4 (fourBytes (g .x / 4294967296)) (fourBytes (g .x % 4294967296)) (four-length _) (let z = four-length (g .x % 4294967296) in omega (arith, s .pre, z)) (p .put-four .ensures) (q .put-four2 .ensures)
+    let z = four-length (g .x % 4294967296) in
+    over-next (now (g .bytes)) (g .at) 4 (fourBytes (g .x / 4294967296)) (fourBytes (g .x % 4294967296)) (four-length _) (omega (arith, s .pre, z)) (p .put-four .ensures) (q .put-four2 .ensures)
 
 pub put-eight-spec : {M : Type 1} → statement M
 put-eight-spec =

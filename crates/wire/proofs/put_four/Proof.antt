@@ -27,7 +27,8 @@ returns c =
     let p = q .before .before .before .before in
     let s = p .before .before .before in
     let g = s .args in
-    over-next (now (g .bytes)) (g .at) 2 (twoBytes (g .x / 65536)) (twoBytes (g .x % 65536)) (two-length _) (let z = two-length (g .x % 65536) in omega (arith, s .pre, z)) (p .put-two .ensures) (q .put-two2 .ensures)
+    let z = two-length (g .x % 65536) in
+    over-next (now (g .bytes)) (g .at) 2 (twoBytes (g .x / 65536)) (twoBytes (g .x % 65536)) (two-length _) (omega (arith, s .pre, z)) (p .put-two .ensures) (q .put-two2 .ensures)
 
 pub put-four-spec : {M : Type 1} → statement M
 put-four-spec =

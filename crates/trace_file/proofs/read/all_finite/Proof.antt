@@ -39,8 +39,10 @@ returns c =
     let p = l .before in
     let g = p .before .before .args in
     let s = now (g .file) in
+    let size = from-length s numbersPlace (g .n) in
     let e = c .before .is-finite .ensures ∙ ap finite (c .before .before .number .ensures ∙ sym (from-at s numbersPlace (g .n) (p .loop .k) (l .loop-test .taken))) in
-    finite-out (numbersFrom s numbersPlace (g .n)) (g .n) (p .loop .k) (from-length s numbersPlace (g .n)) (p .loop .inv .0) (l .loop-test .taken) e (not-true (c .before .is-finite .result) (c .if1 .taken))
+    let gone = not-true (c .before .is-finite .result) (c .if1 .taken) in
+    finite-out (numbersFrom s numbersPlace (g .n)) (g .n) (p .loop .k) size (p .loop .inv .0) (l .loop-test .taken) e gone
 
 add-k : tie.Need-add-k Inv-loop μ-loop
 add-k c = search needs
@@ -54,8 +56,10 @@ loop-again c =
     let p = l .before in
     let g = p .before .before .args in
     let s = now (g .file) in
+    let size = from-length s numbersPlace (g .n) in
     let e = c .before .is-finite .ensures ∙ ap finite (c .before .before .number .ensures ∙ sym (from-at s numbersPlace (g .n) (p .loop .k) (l .loop-test .taken))) in
-    (finite-on (numbersFrom s numbersPlace (g .n)) (g .n) (p .loop .k) (from-length s numbersPlace (g .n)) (p .loop .inv .0) (l .loop-test .taken) e (not-false (c .before .is-finite .result) (c .if1 .left)), omega (arith, l .loop-test .taken))
+    let fine = not-false (c .before .is-finite .result) (c .if1 .left) in
+    (finite-on (numbersFrom s numbersPlace (g .n)) (g .n) (p .loop .k) size (p .loop .inv .0) (l .loop-test .taken) e fine, omega (arith, l .loop-test .taken))
 
 returns-2 : tie.Need-returns-2 Inv-loop μ-loop
 returns-2 c =

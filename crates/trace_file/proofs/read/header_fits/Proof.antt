@@ -40,7 +40,14 @@ returns-3 c =
     let s = d .before in
     let n = s .before in
     let v = n .before in
-    rw (le-leb numbersPlace _ (v .before .before .if1 .left), ← v .before .one .ensures .0, eq-eqb (v .before .one .result) _ (v .if2 .left), ← n .count-in .ensures .0, ← s .start-in .ensures, ← d .code-in .ensures)
+    rw (
+      le-leb numbersPlace _ (v .before .before .if1 .left),
+      ← v .before .one .ensures .0,
+      eq-eqb (v .before .one .result) _ (v .if2 .left),
+      ← n .count-in .ensures .0,
+      ← s .start-in .ensures,
+      ← d .code-in .ensures,
+    )
     (and-taken (k .claim-fits .ensures) (c .before .if3 .taken) (c .length-agrees .ensures))
 
 returns-4 : tie.Need-returns-4
@@ -51,7 +58,14 @@ returns-4 c =
     let s = d .before in
     let n = s .before in
     let v = n .before in
-    rw (le-leb numbersPlace _ (v .before .before .if1 .left), ← v .before .one .ensures .0, eq-eqb (v .before .one .result) _ (v .if2 .left), ← n .count-in .ensures .0, ← s .start-in .ensures, ← d .code-in .ensures)
+    rw (
+      le-leb numbersPlace _ (v .before .before .if1 .left),
+      ← v .before .one .ensures .0,
+      eq-eqb (v .before .one .result) _ (v .if2 .left),
+      ← n .count-in .ensures .0,
+      ← s .start-in .ensures,
+      ← d .code-in .ensures,
+    )
     (and-left _ (k .claim-fits .ensures) (c .if3 .left))
 
 pub header-fits-spec : {M : Type 1} → statement M

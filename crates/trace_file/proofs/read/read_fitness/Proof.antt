@@ -31,7 +31,9 @@ count-in-requires : tie.Need-count-in-requires
 count-in-requires c κs = header c .there
 
 mul-n : tie.Need-mul-n
-mul-n c = let h = product-small (c .before .before .before .before .args .width) (c .count-in .result) (c .before .before .before .before .pre) (c .count-in .ensures .1) in omega (arith, h)
+mul-n c =
+    let h = product-small (c .before .before .before .before .args .width) (c .count-in .result) (c .before .before .before .before .pre) (c .count-in .ensures .1) in
+    omega (arith, h)
 
 all-finite-requires : tie.Need-all-finite-requires
 all-finite-requires c κs =
@@ -44,7 +46,13 @@ unfolding readFitness
 returns-2 c =
     let n = c .before .before in
     let k = n .before .before in
-    rw (← k .header-fits .ensures, not-false (k .header-fits .result) (n .before .if1 .left), ← n .count-in .ensures .0, ← c .before .all-finite .ensures, not-true (c .before .all-finite .result) (c .if2 .taken))
+    rw (
+      ← k .header-fits .ensures,
+      not-false (k .header-fits .result) (n .before .if1 .left),
+      ← n .count-in .ensures .0,
+      ← c .before .all-finite .ensures,
+      not-true (c .before .all-finite .result) (c .if2 .taken),
+    )
 
 returns-3 : tie.Need-returns-3
 unfolding readFitness
@@ -52,7 +60,14 @@ returns-3 c =
     let f = c .before .before in
     let n = f .before in
     let k = n .before .before in
-    rw (← k .header-fits .ensures, not-false (k .header-fits .result) (n .before .if1 .left), ← n .count-in .ensures .0, ← f .all-finite .ensures, not-false (f .all-finite .result) (c .before .if2 .left), le-leb _ _ (c .if3 .taken))
+    rw (
+      ← k .header-fits .ensures,
+      not-false (k .header-fits .result) (n .before .if1 .left),
+      ← n .count-in .ensures .0,
+      ← f .all-finite .ensures,
+      not-false (f .all-finite .result) (c .before .if2 .left),
+      le-leb _ _ (c .if3 .taken),
+    )
 
 returns-4 : tie.Need-returns-4
 unfolding readFitness
@@ -60,7 +75,14 @@ returns-4 c =
     let f = c .before .before in
     let n = f .before in
     let k = n .before .before in
-    rw (← k .header-fits .ensures, not-false (k .header-fits .result) (n .before .if1 .left), ← n .count-in .ensures .0, ← f .all-finite .ensures, not-false (f .all-finite .result) (c .before .if2 .left), lt-leb _ _ (c .if3 .left))
+    rw (
+      ← k .header-fits .ensures,
+      not-false (k .header-fits .result) (n .before .if1 .left),
+      ← n .count-in .ensures .0,
+      ← f .all-finite .ensures,
+      not-false (f .all-finite .result) (c .before .if2 .left),
+      lt-leb _ _ (c .if3 .left),
+    )
 
 pub read-fitness-spec : {M : Type 1} → statement M
 read-fitness-spec =

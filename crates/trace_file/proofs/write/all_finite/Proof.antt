@@ -37,8 +37,10 @@ returns c =
     let p = l .before in
     let g = p .before .before .args in
     let m = now (g .numbers) in
+    let size = length-take-le (g .n) m (p .before .before .pre) in
     let e = c .before .is-finite .ensures ∙ ap finite (sym (getD-take (g .n) m (p .loop .k) nan (l .loop-test .taken))) in
-    finite-out (take (g .n) m) (g .n) (p .loop .k) (length-take-le (g .n) m (p .before .before .pre)) (p .loop .inv .0) (l .loop-test .taken) e (not-true (c .before .is-finite .result) (c .if1 .taken))
+    let gone = not-true (c .before .is-finite .result) (c .if1 .taken) in
+    finite-out (take (g .n) m) (g .n) (p .loop .k) size (p .loop .inv .0) (l .loop-test .taken) e gone
 
 add-k : tie.Need-add-k Inv-loop μ-loop
 add-k c = search needs
@@ -52,15 +54,18 @@ loop-again c =
     let p = l .before in
     let g = p .before .before .args in
     let m = now (g .numbers) in
+    let size = length-take-le (g .n) m (p .before .before .pre) in
     let e = c .before .is-finite .ensures ∙ ap finite (sym (getD-take (g .n) m (p .loop .k) nan (l .loop-test .taken))) in
-    (finite-on (take (g .n) m) (g .n) (p .loop .k) (length-take-le (g .n) m (p .before .before .pre)) (p .loop .inv .0) (l .loop-test .taken) e (not-false (c .before .is-finite .result) (c .if1 .left)), omega (arith, l .loop-test .taken))
+    let fine = not-false (c .before .is-finite .result) (c .if1 .left) in
+    (finite-on (take (g .n) m) (g .n) (p .loop .k) size (p .loop .inv .0) (l .loop-test .taken) e fine, omega (arith, l .loop-test .taken))
 
 returns-2 : tie.Need-returns-2 Inv-loop μ-loop
 returns-2 c =
     let p = c .before in
     let g = p .before .before .args in
     let m = now (g .numbers) in
-    finite-done (take (g .n) m) (g .n) (p .loop .k) (length-take-le (g .n) m (p .before .before .pre)) (p .loop .inv .0) (c .loop-test .left)
+    let size = length-take-le (g .n) m (p .before .before .pre) in
+    finite-done (take (g .n) m) (g .n) (p .loop .k) size (p .loop .inv .0) (c .loop-test .left)
 
 pub all-finite-spec : {M : Type 1} → statement M
 all-finite-spec =

@@ -38,8 +38,9 @@ returns c =
     let one = two .before .before .before .before in
     let s = one .before .before .before .before in
     let g = s .args in
-    let first = one .put-four .ensures ∙ ap (λ (x : ℕ). over (now (g .file)) 0 (fourBytes x)) (one .before .following .ensures .0) in
-    header-put (now (g .file)) (g .version) (g .width) (g .count) (g .start) (g .code) (s .pre .0) first (two .put-one .ensures) (three .put-two .ensures) (four .put-two2 .ensures) (five .put-one2 .ensures)
+    let file = now (g .file) in
+    let first = one .put-four .ensures ∙ ap (λ (x : ℕ). over file 0 (fourBytes x)) (one .before .following .ensures .0) in
+    header-put file (g .version) (g .width) (g .count) (g .start) (g .code) (s .pre .0) first (two .put-one .ensures) (three .put-two .ensures) (four .put-two2 .ensures) (five .put-one2 .ensures)
 
 pub put-header-spec : {M : Type 1} → statement M
 put-header-spec =

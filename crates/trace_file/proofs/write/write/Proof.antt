@@ -42,13 +42,21 @@ put-header-requires c κs =
     (omega (arith, h), (s .pre .0, (s .pre .1, (k .1, (k .2, k .3)))))
 
 mul-put-numbers : tie.Need-mul-put-numbers
-mul-put-numbers c = let s = start (c .before .before .before .before .before) in let f = fit (c .before .before .before .before .before) in let k = claim-fits (f .claim) in let h = product-small (s .args .width) (s .args .count) (s .pre .1) (omega (arith, k .1)) in omega (arith, h)
+mul-put-numbers c =
+    let e = c .before .before .before .before .before in
+    let s = start e in
+    let k = claim-fits (fit e .claim) in
+    let h = product-small (s .args .width) (s .args .count) (s .pre .1) (omega (arith, k .1)) in
+    omega (arith, h)
 
 put-numbers-requires : tie.Need-put-numbers-requires
 put-numbers-requires c κs = let f = fit (c .before .before .before .before .before) in (f .lent, rw (c .before .before .file .given) (f .holds))
 
 file-bytes-requires : tie.Need-file-bytes-requires
-file-bytes-requires c κs = let e = c .before .before .before .before .before .before .before .before in let k = claim-fits (fit e .claim) in (start e .pre .1, omega (arith, k .1))
+file-bytes-requires c κs =
+    let e = c .before .before .before .before .before .before .before .before in
+    let k = claim-fits (fit e .claim) in
+    (start e .pre .1, omega (arith, k .1))
 
 returns : tie.Need-returns
 unfolding writeOf

@@ -15,7 +15,10 @@ unfolding writeFitness
 returns c = rw (← c .before .claim-fits .ensures, not-true (c .before .claim-fits .result) (c .if1 .taken))
 
 mul-if2 : tie.Need-mul-if2
-mul-if2 c = let g = c .before .before .before .args in let h = small (g .width) (g .count) (g .start) (g .code) (c .before .before .before .pre) (c .before .claim-fits .ensures) (not-false (c .before .claim-fits .result) (c .if1 .left)) in omega (arith, h .1)
+mul-if2 c =
+    let g = c .before .before .before .args in
+    let h = small (g .width) (g .count) (g .start) (g .code) (c .before .before .before .pre) (c .before .claim-fits .ensures) (not-false (c .before .claim-fits .result) (c .if1 .left)) in
+    omega (arith, h .1)
 
 returns-2 : tie.Need-returns-2
 unfolding writeFitness holdsOf
@@ -49,7 +52,15 @@ returns-4 c =
     let f = c .before in
     let l = f .before .before .before in
     let k = l .before .before in
-    rw (← k .claim-fits .ensures, not-false (k .claim-fits .result) (l .before .if1 .left), le-leb _ _ (l .if2 .left), ← f .before .before .file-bytes .ensures, le-leb _ _ (f .before .if3 .left), ← f .all-finite .ensures, c .if4 .taken)
+    rw (
+      ← k .claim-fits .ensures,
+      not-false (k .claim-fits .result) (l .before .if1 .left),
+      le-leb _ _ (l .if2 .left),
+      ← f .before .before .file-bytes .ensures,
+      le-leb _ _ (f .before .if3 .left),
+      ← f .all-finite .ensures,
+      c .if4 .taken,
+    )
 
 returns-5 : tie.Need-returns-5
 unfolding writeFitness holdsOf
@@ -57,7 +68,15 @@ returns-5 c =
     let f = c .before in
     let l = f .before .before .before in
     let k = l .before .before in
-    rw (← k .claim-fits .ensures, not-false (k .claim-fits .result) (l .before .if1 .left), le-leb _ _ (l .if2 .left), ← f .before .before .file-bytes .ensures, le-leb _ _ (f .before .if3 .left), ← f .all-finite .ensures, c .if4 .left)
+    rw (
+      ← k .claim-fits .ensures,
+      not-false (k .claim-fits .result) (l .before .if1 .left),
+      le-leb _ _ (l .if2 .left),
+      ← f .before .before .file-bytes .ensures,
+      le-leb _ _ (f .before .if3 .left),
+      ← f .all-finite .ensures,
+      c .if4 .left,
+    )
 
 pub write-fitness-spec : {M : Type 1} → statement M
 write-fitness-spec =
