@@ -36,12 +36,12 @@ pub fn four(bytes: &[u8], at: usize) -> u64
     two(bytes, at) * 65536 + two(bytes, at + 2)
 }
 
-// The eight bytes from `at` on.
+// The eight bytes from `at` on. The low half stands first: so the compiler makes one load of the eight (docs/SPEED.md).
 pub fn eight(bytes: &[u8], at: usize) -> u64
     requires { ⌜ at + 8 ≤ length (now bytes) ⌝ }
     ensures { λ r. ⌜ r ≡ eightAt (now (bytes .entry)) at ⌝ }
 {
-    four(bytes, at) * 4294967296 + four(bytes, at + 4)
+    four(bytes, at + 4) + four(bytes, at) * 4294967296
 }
 
 // The binary64 number whose bits are the eight bytes from `at` on; every NaN pattern is a NaN.
