@@ -125,4 +125,7 @@ returns-20 c = rw (c .enum-told16 .given .1)
 pub index-spec : {M : Type 1} → statement M
 index-spec =
     tie.close
-    (tie.spec enum-known-self enum-known-self-2 enum-known-self-3 enum-known-self-4 enum-told enum-told-2 enum-told-3 enum-told-4 enum-told-5 enum-told-6 enum-told-7 enum-told-8 enum-told-9 enum-told-10 enum-told-11 enum-told-12 enum-told-13 enum-told-14 enum-told-15 enum-told-16 returns returns-2 returns-3 returns-4 returns-5 returns-6 returns-7 returns-8 returns-9 returns-10 returns-11 returns-12 returns-13 returns-14 returns-15 returns-16 returns-17 returns-18 returns-19 returns-20)
+    (tie.spec enum-known-self enum-known-self-2 enum-known-self-3 enum-known-self-4 enum-told enum-told-2 enum-told-3 enum-told-4
+    enum-told-5 enum-told-6 enum-told-7 enum-told-8 enum-told-9 enum-told-10 enum-told-11 enum-told-12 enum-told-13 enum-told-14
+    enum-told-15 enum-told-16 returns returns-2 returns-3 returns-4 returns-5 returns-6 returns-7 returns-8 returns-9 returns-10 returns-11
+    returns-12 returns-13 returns-14 returns-15 returns-16 returns-17 returns-18 returns-19 returns-20)
