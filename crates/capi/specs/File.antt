@@ -27,10 +27,11 @@ use Rattle.capi.specs.Trace.{tracedWord}
 unfoldable pub writtenWord : Written → ℕ
 writtenWord r = refusalOf r + bytesOf r * 2 ^ 32
 
--- version 1: seven numbers a point
+-- the writer of version 1: seven numbers a point
 abbrev pub writeV1 : List Float → ℕ → ℕ → ℕ → List ℕ → Filed
 writeV1 l count start code file = writeOf version1 width1 l count start code file
 
+-- its reader
 abbrev pub readV1 : List ℕ → List Float → Outcome
 readV1 file t = readOf version1 width1 file t
 

@@ -38,12 +38,15 @@ fileOf version w l count start code = headerOf version w count start code ++ num
 
 -- ---- what a file says
 
+-- its "2-byte count"
 abbrev pub countIn : List ℕ → ℕ
 countIn s = twoAt s countPlace
 
+-- its "2-byte start index"
 abbrev pub startIn : List ℕ → ℕ
 startIn s = twoAt s startPlace
 
+-- its "one code byte"
 abbrev pub codeIn : List ℕ → ℕ
 codeIn s = byteAt s codePlace
 

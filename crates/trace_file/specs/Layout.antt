@@ -33,10 +33,11 @@ following w count = fileBytes w count - versionPlace
 abbrev pub greatestCode : ℕ
 greatestCode = 2
 
--- "version byte 1", and "seven 8-byte numbers a point": version 1's own seven
+-- "version byte 1"
 abbrev pub version1 : ℕ
 version1 = 1
 
+-- "seven 8-byte numbers a point": version 1's own seven
 abbrev pub width1 : ℕ
 width1 = 7
 

@@ -21,6 +21,7 @@ readTests version w s room =
     ∷ asked (leb (w * countIn s) room) refusal.Lent
     ∷ []
 
+-- the first refusal of a call
 unfoldable pub readFitness : ℕ → ℕ → List ℕ → ℕ → Verdict
 readFitness version w s room = firstRefusal (readTests version w s room)
 

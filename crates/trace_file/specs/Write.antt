@@ -21,6 +21,7 @@ pub record Filed : Type 0 where
   pub answer : Written
   pub file : List ℕ
 
+-- the two as one
 abbrev pub filed : Written → List ℕ → Filed
 filed r s = record { answer = r; file = s }
 
@@ -44,6 +45,7 @@ writeTests w l count start code room =
     ∷ asked (allFinite (take (w * count) l)) refusal.TraceFile
     ∷ []
 
+-- the first refusal of a call
 unfoldable pub writeFitness : ℕ → List Float → ℕ → ℕ → ℕ → ℕ → Verdict
 writeFitness w l count start code room = firstRefusal (writeTests w l count start code room)
 
