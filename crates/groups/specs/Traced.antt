@@ -11,6 +11,7 @@ pub record Outcome : Type 0 where
   pub answer : Traced
   pub buffer : List Float
 
+-- the two as one
 abbrev pub outcome : Traced → List Float → Outcome
 outcome r l = record { answer = r; buffer = l }
 

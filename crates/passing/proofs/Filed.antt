@@ -47,14 +47,16 @@ use Rattle.passing.specs.Promises.{WritePromise, WriteV1Promise, ReadPro
 -- ---- the writer
 
 module _ (version w : ℕ) (l : List Float) (count start code : ℕ) (before : List ℕ) where
-  -- where nothing is refused the file stands at the front
-  write-passed : write.refusalOf (writeOf version w l count start code before .answer) ≡ 0
-      → WriteFit w l count start code (length before) × (writeOf version w l count start code before ≡ filed (Bytes (fileBytes w count)) (written (fileOf version w l count start code) before))
+  -- where nothing is refused every test passed, and the file stands at the front
+  abbrev Whole : write.Filed → Type 0
+  Whole o = WriteFit w l count start code (length before) × (o ≡ filed (Bytes (fileBytes w count)) (written (fileOf version w l count start code) before))
+
+  write-passed : write.refusalOf (writeOf version w l count start code before .answer) ≡ 0 → Whole (writeOf version w l count start code before)
   unfolding writeOf
   write-passed = go (writeFitness w l count start code (length before)) refl
     where
       go : (v : Verdict) → writeFitness w l count start code (length before) ≡ v → write.refusalOf (afterWriting version w l count start code before v .answer) ≡ 0
-          → WriteFit w l count start code (length before) × (afterWriting version w l count start code before v ≡ filed (Bytes (fileBytes w count)) (written (fileOf version w l count start code) before))
+          → Whole (afterWriting version w l count start code before v)
       go verdict.Passed e z = (write-fit w l count start code (length before) e, refl)
       go (verdict.Refused r) e z = let h = number-positive r in absurd (omega arith)
 

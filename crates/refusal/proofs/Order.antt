@@ -8,7 +8,7 @@ use Rattle.refusal.specs.declared.Refusal.{Refusal}
 use Rattle.refusal.specs.declared.Verdict.{Verdict}
 use Rattle.refusal.specs.declared.Verdict.the-variants.{Passed, Refused}
 use Rattle.refusal.specs.Refusal.{indexOf}
-use Rattle.refusal.specs.Verdict.{indexIn, asked, firstRefusal, AllPassed}
+use Rattle.refusal.specs.Verdict.{indexIn, asked, andThen, firstRefusal, AllPassed}
 
 abbrev sign : Verdict → ℕ
 sign Passed = 1
@@ -42,6 +42,13 @@ pub passed-first : (l : List Verdict) → AllPassed l → firstRefusal l ≡ Pas
 passed-first [] h = refl
 passed-first (Passed ∷ rest) h = passed-first rest (h .1)
 passed-first (Refused r ∷ rest) h = absurd (unpassed (h .0))
+
+-- one test and those behind it, by the code's answer to it
+pub held-then : (r : Refusal) {t b : Bool} {v next : Verdict} → b ≡ t → b ≡ true → v ≡ next → v ≡ andThen (asked t r) next
+held-then r e f h = rw (← e, f) h
+
+pub failed-then : (r : Refusal) (next : Verdict) {t b : Bool} → b ≡ t → b ≡ false → Refused r ≡ andThen (asked t r) next
+failed-then r next e f = rw (← e, f)
 
 -- something holds of every test's verdict, as far as those before pass
 abbrev pub Each : (Verdict → Type 0) → List Verdict → Type 0

@@ -1,7 +1,8 @@
 -- The numbers of document 01's refusals ("A refusal is its number alone; 13 to 16 add the index of the point"). Definitions only.
 use Prim.Native.Nat.{ℕ}
 use Rattle.refusal.specs.declared.Refusal.{Refusal}
-use Rattle.refusal.specs.declared.Refusal.the-variants.{Number, Size, Window, TurnMark, Tolerance, Parameter, StepCap, Lent, NoMeeting, NoDirection, TooShort, Claim, NotOwnPoint, OutsideWindow, Gap, Chord, BoxNumber, Coordinate, JobFile, TraceFile}
+use Rattle.refusal.specs.declared.Refusal.the-variants.{Number, Size, Window, TurnMark, Tolerance, Parameter, StepCap, Lent, NoMeeting, NoDirection, TooShort}
+use Rattle.refusal.specs.declared.Refusal.the-variants.{Claim, NotOwnPoint, OutsideWindow, Gap, Chord, BoxNumber, Coordinate, JobFile, TraceFile}
 
 -- "Who can cause a refusal", in its order
 abbrev pub numberOf : Refusal → ℕ

@@ -59,7 +59,13 @@ module _ (version w : ℕ) (l : List Float) (d : Binary64 l) (count start code r
   pub written-reads : (t : List Float) → w * count ≤ length t → readOf version w file t ≡ outcome (Line count start code) (written (take (w * count) l) t)
   unfolding readOf
   written-reads t h =
-      rw (fit-read version w file (length t) (reads-fit (length t) h), numbers-are, count-back version w l count start code, start-back version w l count start code, code-back version w l count start code)
+      rw (
+        fit-read version w file (length t) (reads-fit (length t) h),
+        numbers-are,
+        count-back version w l count start code,
+        start-back version w l count start code,
+        code-back version w l count start code,
+      )
 
 -- ---- read, then written
 

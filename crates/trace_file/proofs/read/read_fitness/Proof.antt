@@ -5,6 +5,8 @@ use lib.ListN.{length}
 use denote.Ref.{now}
 use borrow.Author.Tests.{not-true, not-false, le-leb, lt-leb}
 use borrow.Author.Needs.{needs}
+use Rattle.refusal.specs.declared.Refusal.the-variants as refusal
+use Rattle.refusal.proofs.Order.{held-then, failed-then}
 use Rattle.trace_file.specs.Layout.{numbersPlace}
 use Rattle.trace_file.specs.Read.{readFitness}
 use Rattle.trace_file.proofs.Fitness.{HeaderFit, header-fits}
@@ -44,45 +46,31 @@ all-finite-requires c κs =
 returns-2 : tie.Need-returns-2
 unfolding readFitness
 returns-2 c =
-    let n = c .before .before in
+    let f = c .before in
+    let n = f .before in
     let k = n .before .before in
-    rw (
-      ← k .header-fits .ensures,
-      not-false (k .header-fits .result) (n .before .if1 .left),
-      ← n .count-in .ensures .0,
-      ← c .before .all-finite .ensures,
-      not-true (c .before .all-finite .result) (c .if2 .taken),
-    )
+    rw (← k .header-fits .ensures, not-false (k .header-fits .result) (n .before .if1 .left), ← n .count-in .ensures .0)
+    (failed-then refusal.TraceFile _ (f .all-finite .ensures) (not-true (f .all-finite .result) (c .if2 .taken)))
 
 returns-3 : tie.Need-returns-3
 unfolding readFitness
 returns-3 c =
     let f = c .before .before in
+    let fine = not-false (f .all-finite .result) (c .before .if2 .left) in
     let n = f .before in
     let k = n .before .before in
-    rw (
-      ← k .header-fits .ensures,
-      not-false (k .header-fits .result) (n .before .if1 .left),
-      ← n .count-in .ensures .0,
-      ← f .all-finite .ensures,
-      not-false (f .all-finite .result) (c .before .if2 .left),
-      le-leb _ _ (c .if3 .taken),
-    )
+    rw (← k .header-fits .ensures, not-false (k .header-fits .result) (n .before .if1 .left), ← n .count-in .ensures .0)
+    (held-then refusal.TraceFile (f .all-finite .ensures) fine (rw (le-leb _ _ (c .if3 .taken))))
 
 returns-4 : tie.Need-returns-4
 unfolding readFitness
 returns-4 c =
     let f = c .before .before in
+    let fine = not-false (f .all-finite .result) (c .before .if2 .left) in
     let n = f .before in
     let k = n .before .before in
-    rw (
-      ← k .header-fits .ensures,
-      not-false (k .header-fits .result) (n .before .if1 .left),
-      ← n .count-in .ensures .0,
-      ← f .all-finite .ensures,
-      not-false (f .all-finite .result) (c .before .if2 .left),
-      lt-leb _ _ (c .if3 .left),
-    )
+    rw (← k .header-fits .ensures, not-false (k .header-fits .result) (n .before .if1 .left), ← n .count-in .ensures .0)
+    (held-then refusal.TraceFile (f .all-finite .ensures) fine (rw (lt-leb _ _ (c .if3 .left))))
 
 pub read-fitness-spec : {M : Type 1} → statement M
 read-fitness-spec =

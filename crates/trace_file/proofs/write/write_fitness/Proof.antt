@@ -1,7 +1,10 @@
+use mathlib.Core.Path.{refl}
 use native.Mathlib.Omega.{arith}
 use borrow.Author.Tests.{not-true, not-false, le-leb, lt-leb}
 use borrow.Author.Needs.{needs}
 use Rattle.trace_file.specs.Write.{writeFitness}
+use Rattle.refusal.specs.declared.Refusal.the-variants as refusal
+use Rattle.refusal.proofs.Order.{held-then, failed-then}
 use Rattle.groups.specs.Groups.{holdsOf}
 use Rattle.trace_file.proofs.Fitness.{small}
 use Rattle.trace_file.proofs.write.write_fitness.Statement.{statement}
@@ -52,15 +55,9 @@ returns-4 c =
     let f = c .before in
     let l = f .before .before .before in
     let k = l .before .before in
-    rw (
-      ← k .claim-fits .ensures,
-      not-false (k .claim-fits .result) (l .before .if1 .left),
-      le-leb _ _ (l .if2 .left),
-      ← f .before .before .file-bytes .ensures,
-      le-leb _ _ (f .before .if3 .left),
-      ← f .all-finite .ensures,
-      c .if4 .taken,
-    )
+    let claim = not-false (k .claim-fits .result) (l .before .if1 .left) in
+    rw (← k .claim-fits .ensures, claim, le-leb _ _ (l .if2 .left), ← f .before .before .file-bytes .ensures, le-leb _ _ (f .before .if3 .left))
+    (held-then refusal.TraceFile (f .all-finite .ensures) (c .if4 .taken) refl)
 
 returns-5 : tie.Need-returns-5
 unfolding writeFitness holdsOf
@@ -68,15 +65,9 @@ returns-5 c =
     let f = c .before in
     let l = f .before .before .before in
     let k = l .before .before in
-    rw (
-      ← k .claim-fits .ensures,
-      not-false (k .claim-fits .result) (l .before .if1 .left),
-      le-leb _ _ (l .if2 .left),
-      ← f .before .before .file-bytes .ensures,
-      le-leb _ _ (f .before .if3 .left),
-      ← f .all-finite .ensures,
-      c .if4 .left,
-    )
+    let claim = not-false (k .claim-fits .result) (l .before .if1 .left) in
+    rw (← k .claim-fits .ensures, claim, le-leb _ _ (l .if2 .left), ← f .before .before .file-bytes .ensures, le-leb _ _ (f .before .if3 .left))
+    (failed-then refusal.TraceFile _ (f .all-finite .ensures) (c .if4 .left))
 
 pub write-fitness-spec : {M : Type 1} → statement M
 write-fitness-spec =
