@@ -20,7 +20,7 @@ use Rattle.geometry.specs.Point.{distanceOf}
 use Rattle.patch.specs.declared.patch.Patch.{Patch}
 use Rattle.patch.specs.Located.{pointA, pointB}
 use Rattle.patch.specs.Patch.{insideOf}
-use Rattle.patch.proofs.Fitness.{pair-below}
+use Rattle.patch.proofs.Fitness.{pair-each}
 use Rattle.certificate.specs.Passes.{parametersIn, ClosedAs, claimed-open, forward, backward}
 use Rattle.certificate.specs.Check.{isOwn, ownOf, chordFits, pointTests, pointVerdict, stopped, pointBody, allPassed, pointsVerdict, claimSo, checkTests, checkOf}
 use Rattle.certificate.proofs.Passed.{claimed}
@@ -57,7 +57,7 @@ pub check-index : (a b : Patch) (tol : Tolerance) (l : List Float) (count start 
 unfolding checkOf
 check-index a b tol l count start closing =
     first-each (Below mostPoints) (checkTests a b tol l count start closing) (
-      pair-below mostPoints a b tol,
+      pair-each (Below mostPoints) (omega arith) (omega arith) (omega arith) (omega arith) (omega arith) (omega arith) a b tol,
       λ p. (
         asked-below (holdsOf width l count) refusal.Lent mostPoints (omega arith),
         λ h. (

@@ -15,8 +15,9 @@ use Rattle.patch.specs.declared.patch.Patch.{Patch}
 use Rattle.patch.specs.declared.patch.Window.{Window}
 use Rattle.patch.specs.declared.patch.Parameters.{Parameters}
 use Rattle.patch.specs.Patch.{insideOf, windowHolds, boundedOf, withinBounds}
+use Rattle.refusal.specs.declared.Refusal.the-variants as refusal
 use Rattle.solve.proofs.Computing as solve
-use Rattle.meeting.specs.declared.newton.Met.the-variants.{At, Nothing}
+use Rattle.meeting.specs.declared.newton.Met.the-variants.{At, Refused}
 use Rattle.meeting.specs.Correction.{offsetOf, residualOf, columnsOf, dot4Of, normalMatrix, freeCorrection, correctionOf, shiftedOf}
 use Rattle.meeting.specs.Newton.{nearOf, trialsOf, lastTest, newtonRound, newtonOf, meetOf}
 
@@ -48,6 +49,6 @@ pub equal-planes-meet : meetOf (planeAt (bits 0)) (planeAt (bits 0)) origin defa
 unfolding computing
 equal-planes-meet = refl
 
-pub planes-apart-do-not : meetOf (planeAt (bits 0)) (planeAt (bits 0x3ff0_0000_0000_0000)) origin defaultTolerance ≡ Nothing
+pub planes-apart-do-not : meetOf (planeAt (bits 0)) (planeAt (bits 0x3ff0_0000_0000_0000)) origin defaultTolerance ≡ Refused refusal.NoMeeting
 unfolding computing
 planes-apart-do-not = refl

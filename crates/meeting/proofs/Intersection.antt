@@ -26,13 +26,14 @@ use Rattle.gap.proofs.Gap.{magnitude-is-gap, fit-tolerance, finite-between, lea
 use Rattle.patch.specs.declared.patch.Patch.{Patch}
 use Rattle.patch.specs.declared.patch.Parameters.{Parameters}
 use Rattle.patch.specs.Patch.{insideOf, boundedOf, withinBounds}
+use Rattle.refusal.specs.declared.Refusal.the-variants as refusal
 use Rattle.meeting.specs.declared.correction.Target.{Target}
 use Rattle.meeting.specs.declared.correction.Target.the-variants.{Free, Plane, Pin}
 use Rattle.meeting.specs.declared.correction.Residual.{Residual}
 use Rattle.meeting.specs.declared.correction.Correction.{Correction}
 use Rattle.meeting.specs.declared.correction.Correction.the-variants as correction
 use Rattle.meeting.specs.declared.newton.Met.{Met}
-use Rattle.meeting.specs.declared.newton.Met.the-variants.{At, Nothing}
+use Rattle.meeting.specs.declared.newton.Met.the-variants.{At, Refused}
 use Rattle.meeting.specs.declared.newton.Trial.{Trial}
 use Rattle.meeting.specs.declared.newton.Trial.the-variants as trial
 use Rattle.meeting.specs.declared.newton.Round.the-variants as round
@@ -51,7 +52,7 @@ module _ (a b : Patch) (target : Target) (confusion : Float) (tight : T (tenth �
 
   Holds : Met → Type 0
   Holds (At x) = IsIntersection a b confusion x × H x
-  Holds Nothing = T true
+  Holds (Refused r) = T true
 
   residual-own : (x : Parameters) → H x → Own (residualOf a b target x)
   unfolding Own residualOf
@@ -94,7 +95,7 @@ module _ (a b : Patch) (target : Target) (confusion : Float) (tight : T (tenth �
   unfolding lastTest Holds
   last-good s o = go (nearOf a b s confusion) (λ t. near-good s confusion o self t)
     where
-      go : (near : Bool) → (T near → IsIntersection a b confusion (s .x) × H (s .x)) → Holds (pick near (At (s .x)) Nothing)
+      go : (near : Bool) → (T near → IsIntersection a b confusion (s .x) × H (s .x)) → Holds (pick near (At (s .x)) (Refused refusal.NoMeeting))
       go true g = g tt
       go false g = tt
 

@@ -12,13 +12,14 @@ use Rattle.geometry.specs.Vector.{magnitudeOf}
 use Rattle.patch.specs.declared.patch.Patch.{Patch}
 use Rattle.patch.specs.declared.patch.Parameters.{Parameters}
 use Rattle.patch.specs.Patch.{insideOf, withinBounds}
+use Rattle.refusal.specs.declared.Refusal.the-variants as refusal
 use Rattle.meeting.specs.declared.correction.Target.{Target}
 use Rattle.meeting.specs.declared.correction.Target.the-variants.{Free, Plane, Pin}
 use Rattle.meeting.specs.declared.correction.Residual.{Residual}
 use Rattle.meeting.specs.declared.correction.Correction.{Correction}
 use Rattle.meeting.specs.declared.correction.Correction.the-variants as correction
 use Rattle.meeting.specs.declared.newton.Met.{Met}
-use Rattle.meeting.specs.declared.newton.Met.the-variants.{At, Nothing}
+use Rattle.meeting.specs.declared.newton.Met.the-variants.{At, Refused}
 use Rattle.meeting.specs.declared.newton.Trial.{Trial}
 use Rattle.meeting.specs.declared.newton.Trial.the-variants as trial
 use Rattle.meeting.specs.declared.newton.Round.{Round}
@@ -59,7 +60,7 @@ trialsOf a b target s d = trialsFrom a b target s d 0 one
 
 -- "The last test is against confusion itself."
 unfoldable pub lastTest : Patch → Patch → Float → Residual → Met
-lastTest a b confusion s = pick (nearOf a b s confusion) (At (s .x)) Nothing
+lastTest a b confusion s = pick (nearOf a b s confusion) (At (s .x)) (Refused refusal.NoMeeting)
 
 -- "Without one the rounds end."
 abbrev pub afterTrials : Patch → Patch → Float → Residual → Trial → Round
@@ -69,7 +70,7 @@ afterTrials a b confusion s trial.Nothing = round.End (lastTest a b confusion s)
 -- "A failed solve refuses, even where that last test would pass."
 abbrev pub afterSolve : Patch → Patch → Target → Float → Residual → Correction → Round
 afterSolve a b target confusion s (correction.By d) = afterTrials a b confusion s (trialsOf a b target s d)
-afterSolve a b target confusion s correction.Singular = round.End Nothing
+afterSolve a b target confusion s correction.Singular = round.End (Refused refusal.NoMeeting)
 
 -- "accepted at once when gap and plane offset are at most a tenth of confusion; else a solve, and up to 12 trials"
 unfoldable pub newtonRound : Patch → Patch → Target → Float → Residual → Round

@@ -13,6 +13,7 @@ use patch::Parameters;
 use patch::Patch;
 use patch::inside;
 use patch::within_bounds;
+use refusal::Refusal;
 ghost use mathlib.Core.Path.{_≡_};
 ghost use Rattle.meeting.specs.Newton.{nearOf, trialsOf, lastTest, newtonRound, newtonOf, meetOf, meetInPlaneOf, landOf};
 
@@ -21,10 +22,10 @@ const MOST_TRIALS: usize = 12;
 
 const MOST_ROUNDS: usize = 32;
 
-// Where the surfaces were met, or that they were not.
+// Where the surfaces were met, or why they were not.
 pub enum Met {
     At(Parameters),
-    Nothing,
+    Refused(Refusal),
 }
 
 // The first trial with strictly smaller merit, if there is one.
@@ -73,7 +74,7 @@ fn last_test(a: Patch, b: Patch, confusion: f64, s: Residual) -> Met
         let x = s.x;
         Met::At(x)
     } else {
-        Met::Nothing
+        Met::Refused(Refusal::NoMeeting)
     }
 }
 
@@ -87,7 +88,7 @@ fn newton_round(a: Patch, b: Patch, target: Target, confusion: f64, s: Residual)
     }
     let correction = newton_correction(a, b, target, s);
     let Correction::By(d) = correction else {
-        return Round::End(Met::Nothing);
+        return Round::End(Met::Refused(Refusal::NoMeeting));
     };
     let trial = trials(a, b, target, s, d);
     let Trial::Better(t) = trial else {

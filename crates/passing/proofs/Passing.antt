@@ -69,7 +69,7 @@ module _ {a b : Patch} {tol : Tolerance} {n : ℕ} {l : List Float} (f : CallFit
 
   seed-passing : (guess : Parameters) (m : Met) → meetOf a b guess tol ≡ m → Passing (afterSeed a b tol n m)
   seed-passing guess (met.At x) e = direction-passing x (meet-intersects a b tol (f .tolerance) guess x e) (tangentOf a b x tol)
-  seed-passing guess met.Nothing e = λ q. absurd (let z : ⊥ = omega arith in z)
+  seed-passing guess (met.Refused r) e = λ q. absurd (let h = number-positive r in let z : ⊥ = omega arith in z)
 
   walk-passing : (guess : Parameters) → Passing (walkOf a b tol guess n)
   unfolding walkOf

@@ -1,11 +1,10 @@
--- What the tests of two surfaces and the tolerance say: where they pass, and that their refusals name no point.
+-- What the tests of two surfaces and the tolerance say: where they pass, and which refusals are theirs.
 use mathlib.Core.Path.{_≡_}
 use mathlib.Core.Bool.{true}
-use Prim.Native.Nat.{ℕ}
-use native.Mathlib.Omega.{arith}
 use Rattle.refusal.specs.declared.Refusal.the-variants as refusal
-use Rattle.refusal.specs.declared.Verdict.the-variants.{Passed}
-use Rattle.refusal.proofs.Order.{asked-held, held-asked, first-passed, passed-first, first-each, Below, asked-below}
+use Rattle.refusal.specs.declared.Verdict.{Verdict}
+use Rattle.refusal.specs.declared.Verdict.the-variants.{Passed, Refused}
+use Rattle.refusal.proofs.Order.{asked-held, held-asked, first-passed, passed-first, first-each, asked-each}
 use Rattle.geometry.specs.declared.tolerance.Tolerance.{Tolerance}
 use Rattle.geometry.specs.Tolerance.{toleranceFit}
 use Rattle.patch.specs.declared.patch.Patch.{Patch}
@@ -21,31 +20,34 @@ module _ (a b : Patch) (tol : Tolerance) where
   unfolding pairFitness
   passed-pair f g t = passed-first (pairTests a b tol) (f, (g, (held-asked (toleranceFit tol) refusal.Tolerance t, tt)))
 
--- 1 to 5 name no point
-pub fitness-below : (n : ℕ) (p : Patch) → Below n (fitnessOf p)
+-- what holds of a pass and of 1 to 4 holds of a surface's verdict
+pub fitness-each : (P : Verdict → Type 0) → P Passed → P (Refused refusal.Number) → P (Refused refusal.Size) → P (Refused refusal.Window) → P (Refused refusal.TurnMark)
+    → (p : Patch) → P (fitnessOf p)
 unfolding fitnessOf
-fitness-below n p =
+fitness-each P passed number size window mark p =
     let s = p .surface in
-    first-each (Below n) (fitnessTests p) (
-      asked-below (numbersFit s) refusal.Number n (omega arith),
+    first-each P (fitnessTests p) (
+      asked-each P (numbersFit s) refusal.Number passed number,
       λ e1. (
-        asked-below (sizesFit s) refusal.Size n (omega arith),
+        asked-each P (sizesFit s) refusal.Size passed size,
         λ e2. (
-          asked-below (windowFit (p .u)) refusal.Window n (omega arith),
+          asked-each P (windowFit (p .u)) refusal.Window passed window,
           λ e3. (
-            asked-below (windowFit (p .v)) refusal.Window n (omega arith),
+            asked-each P (windowFit (p .v)) refusal.Window passed window,
             λ e4. (
-              asked-below (markFit (p .u .turn) (uIsAngle s)) refusal.TurnMark n (omega arith),
+              asked-each P (markFit (p .u .turn) (uIsAngle s)) refusal.TurnMark passed mark,
               λ e5.
-                  (asked-below (markFit (p .v .turn) (vIsAngle s)) refusal.TurnMark n (omega arith), λ e6. omega arith),
+                  (asked-each P (markFit (p .v .turn) (vIsAngle s)) refusal.TurnMark passed mark, λ e6. passed),
             ),
           ),
         ),
       ),
     )
 
-pub pair-below : (n : ℕ) (a b : Patch) (tol : Tolerance) → Below n (pairFitness a b tol)
+-- and with 5 of the verdict of two surfaces and the tolerance
+pub pair-each : (P : Verdict → Type 0) → P Passed → P (Refused refusal.Number) → P (Refused refusal.Size) → P (Refused refusal.Window) → P (Refused refusal.TurnMark)
+    → P (Refused refusal.Tolerance) → (a b : Patch) (tol : Tolerance) → P (pairFitness a b tol)
 unfolding pairFitness
-pair-below n a b tol =
-    first-each (Below n) (pairTests a b tol)
-    (fitness-below n a, λ e. (fitness-below n b, λ f. (asked-below (toleranceFit tol) refusal.Tolerance n (omega arith), λ g. omega arith)))
+pair-each P passed number size window mark tolerance a b tol =
+    let fitness = fitness-each P passed number size window mark in
+    first-each P (pairTests a b tol) (fitness a, λ e. (fitness b, λ f. (asked-each P (toleranceFit tol) refusal.Tolerance passed tolerance, λ g. passed)))

@@ -32,7 +32,7 @@ writtenExit exit.Nowhere t = probed 4 t
 -- 1 and the meeting, or 0
 abbrev pub writtenMet : Met → List Float → Probed
 writtenMet (met.At y) t = probed 1 (putParameters t y)
-writtenMet met.Nothing t = probed 0 t
+writtenMet (met.Refused r) t = probed 0 t
 
 -- `tangent`
 unfoldable pub probeTangent : Call → List Float → Probed

@@ -16,7 +16,7 @@ ghost use mathlib.Core.Path.{_≡_};
 ghost use Prim.Native.Nat.{_≤_};
 ghost use lib.ListN.{length};
 ghost use Rattle.probe.specs.Probe.{probed};
-ghost use Rattle.probe.specs.Steps.{probeTangent, probePredict, probeLeaving, probeMeet, probeMeetInPlane, probeLand, probeStep};
+ghost use Rattle.probe.specs.Steps.{probeTangent, probePredict, probeLeaving, probeMeet, probeMeetInPlane, probeLand, probeStep, writtenMet};
 
 // 1 and the direction, or 0.
 fn probe_tangent(c: Call, output: &mut [f64]) -> u64
@@ -61,50 +61,49 @@ fn probe_leaving(c: Call, input: &[f64], output: &mut [f64]) -> u64
 }
 
 // 1 and the meeting, or 0.
-fn probe_meet(c: Call, output: &mut [f64]) -> u64
+fn put_met(met: Met, output: &mut [f64]) -> u64
     requires { ⌜ 4 ≤ length (now output) ⌝ }
-    ensures { λ r. ⌜ probed r (now (output .exit)) ≡ probeMeet c (now (output .entry)) ⌝ }
+    ensures { λ r. ⌜ probed r (now (output .exit)) ≡ writtenMet met (now (output .entry)) ⌝ }
 {
-    let met = meeting::newton::meet(c.a, c.b, c.x, c.tol);
     match met {
         Met::At(y) => {
             put_parameters(output, y);
             1
         }
-        Met::Nothing => 0,
+        Met::Refused(_) => 0,
     }
 }
 
-// 1 and the meeting in the plane through the point from 48 on with the normal from 51 on, or 0.
+// A meeting.
+fn probe_meet(c: Call, output: &mut [f64]) -> u64
+    requires { ⌜ 4 ≤ length (now output) ⌝ }
+    ensures { λ r. ⌜ probed r (now (output .exit)) ≡ probeMeet c (now (output .entry)) ⌝ }
+{
+    put_met(meeting::newton::meet(c.a, c.b, c.x, c.tol), output)
+}
+
+// A meeting in the plane through the point from 48 on with the normal from 51 on.
 fn probe_meet_in_plane(c: Call, input: &[f64], output: &mut [f64]) -> u64
     requires { ⌜ (54 ≤ length (now input)) × (4 ≤ length (now output)) ⌝ }
     ensures { λ r. ⌜ probed r (now (output .exit)) ≡ probeMeetInPlane c (now (input .entry)) (now (output .entry)) ⌝ }
 {
     let origin = point(input, 48);
     let normal = vector(input, 51);
-    let met = meeting::newton::meet_in_plane(c.a, c.b, c.x, origin, normal, c.tol);
-    match met {
-        Met::At(y) => {
-            put_parameters(output, y);
-            1
-        }
-        Met::Nothing => 0,
-    }
+    put_met(
+        meeting::newton::meet_in_plane(c.a, c.b, c.x, origin, normal, c.tol),
+        output,
+    )
 }
 
-// 1 and the meeting with the parameter `pin` at the number 48, or 0.
+// A meeting with the parameter `pin` at the number 48.
 fn probe_land(c: Call, input: &[f64], pin: u64, output: &mut [f64]) -> u64
     requires { ⌜ (54 ≤ length (now input)) × (4 ≤ length (now output)) ⌝ }
     ensures { λ r. ⌜ probed r (now (output .exit)) ≡ probeLand c (now (input .entry)) pin (now (output .entry)) ⌝ }
 {
-    let met = meeting::newton::land(c.a, c.b, c.x, pin as usize, input[48], c.tol);
-    match met {
-        Met::At(y) => {
-            put_parameters(output, y);
-            1
-        }
-        Met::Nothing => 0,
-    }
+    put_met(
+        meeting::newton::land(c.a, c.b, c.x, pin as usize, input[48], c.tol),
+        output,
+    )
 }
 
 // The step of this number; `pin` is for `land` alone. Any other number is answered like a slice too short.

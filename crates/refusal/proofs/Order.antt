@@ -61,10 +61,14 @@ first-each P [] h = h
 first-each P (Passed ∷ rest) h = first-each P rest (h .1 refl)
 first-each P (Refused r ∷ rest) h = h .0
 
+-- of one test's verdict, where it holds of both
+pub asked-each : (P : Verdict → Type 0) (t : Bool) (r : Refusal) → P Passed → P (Refused r) → P (asked t r)
+asked-each P true r p q = p
+asked-each P false r p q = q
+
 -- the index that a test's refusal names is at most n
 abbrev pub Below : ℕ → Verdict → Type 0
 Below n v = indexIn v ≤ n
 
 pub asked-below : (t : Bool) (r : Refusal) (n : ℕ) → indexOf r ≤ n → Below n (asked t r)
-asked-below true r n h = omega arith
-asked-below false r n h = h
+asked-below t r n h = asked-each (Below n) t r (omega arith) h

@@ -72,7 +72,7 @@ module _ (a b : Patch) (tol : Tolerance) (dir : Float) (w : Walker) where
 
   landed-fine : (h : Float) (guess : Parameters) (pin : ℕ) (bound : Float) (m : Met) → landOf a b guess pin bound tol ≡ m → StrideFine (afterLanding a w h m)
   landed-fine h guess pin bound (met.At y) e = landing h y (λ fit. land-intersects a b tol fit guess y pin bound e) (landingKept w h (pointA a y)) refl
-  landed-fine h guess pin bound met.Nothing e = tt
+  landed-fine h guess pin bound (met.Refused r) e = tt
 
   accepted-chord : (h : Float) (ty : Vector3D) (chord turned : Float) → T (acceptedOf (tol .confusion) w h ty chord turned) → T (chord ≤? longestChord)
   unfolding acceptedOf
@@ -98,7 +98,7 @@ module _ (a b : Patch) (tol : Tolerance) (dir : Float) (w : Walker) where
       → StrideFine (afterMeeting a b tol dir w h m)
   meeting-fine h guess (met.At y) e =
       tangent-fine h y (λ fit. meet-in-plane-intersects a b tol fit guess y (addVectorOf (w .p) (scaleOf (w .t) h)) (w .t) e) (tangentOf a b y tol)
-  meeting-fine h guess met.Nothing e = tt
+  meeting-fine h guess (met.Refused r) e = tt
 
   towards-fine : (h : Float) (guess : Parameters) (e : Exit) → StrideFine (towards a b tol dir w h guess e)
   unfolding innerOf landedOf

@@ -53,7 +53,7 @@ landingKept w h q = bits 0 ≤? dotOf (differenceOf q (w .p)) (w .t) && keptOf (
 -- an edge point where `land` found one that may be kept
 abbrev pub afterLanding : Patch → Walker → Float → Met → Stride
 afterLanding a w h (met.At y) = pick (landingKept w h (pointA a y)) (Edge y (pointA a y)) Nothing
-afterLanding a w h met.Nothing = Nothing
+afterLanding a w h (met.Refused r) = Nothing
 
 -- land(a, b, guess, pin, bound, tol), and what follows
 unfoldable pub landedOf : Patch → Patch → Tolerance → Walker → Float → Parameters → ℕ → Float → Stride
@@ -97,7 +97,7 @@ afterTangent a confusion dir w h y direction.Missing = Nothing
 -- the tangent at the meeting, where there is one
 abbrev pub afterMeeting : Patch → Patch → Tolerance → Float → Walker → Float → Met → Stride
 afterMeeting a b tol dir w h (met.At y) = afterTangent a (tol .confusion) dir w h y (tangentOf a b y tol)
-afterMeeting a b tol dir w h met.Nothing = Nothing
+afterMeeting a b tol dir w h (met.Refused r) = Nothing
 
 -- the Rust's "correct onto both surfaces in the plane normal to it": meet(a, b, guess, Some((p + t * h, t)), tol)
 unfoldable pub innerOf : Patch → Patch → Tolerance → Float → Walker → Float → Parameters → Stride

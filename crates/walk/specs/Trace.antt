@@ -9,6 +9,7 @@ use lib.ListN.{length, take, drop, replicate}
 use Rattle.loops.specs.Loop.{pick}
 use Rattle.groups.specs.Groups.{width, leastPoints, holdsOf}
 use Rattle.groups.specs.declared.row.Row.{Row}
+use Rattle.groups.specs.declared.traced.Traced.{Traced}
 use Rattle.groups.specs.declared.traced.Traced.the-variants.{Line, Refused}
 use Rattle.groups.specs.Traced.{Outcome, outcome}
 use Rattle.number.specs.Helpers.{positiveZero}
@@ -88,10 +89,15 @@ abbrev pub afterDirection : Patch → Patch → Tolerance → ℕ → Parameters
 afterDirection a b tol n x (direction.Along t) = settled (ownRow a) n (lineOf a b tol x t n)
 afterDirection a b tol n x direction.Missing = refusedWalk refusal.NoDirection n
 
+-- the answer where no walk begins: the meeting's refusal; a meeting alone is one point, and so has "fewer than 4 points"
+abbrev pub unwalkedOf : Met → Traced
+unwalkedOf (met.At x) = Refused refusal.TooShort
+unwalkedOf (met.Refused r) = Refused r
+
 -- 9: "the guess leads to no meeting"; "a caller goes on only with it, else 9"
 abbrev pub afterSeed : Patch → Patch → Tolerance → ℕ → Met → Outcome
 afterSeed a b tol n (met.At x) = afterDirection a b tol n x (tangentOf a b x tol)
-afterSeed a b tol n met.Nothing = refusedWalk refusal.NoMeeting n
+afterSeed a b tol n (met.Refused r) = refusedWalk r n
 
 -- "The seed must be met first": from the guess, by `meet` without a plane
 unfoldable pub walkOf : Patch → Patch → Tolerance → Parameters → ℕ → Outcome

@@ -17,7 +17,7 @@ ghost use mathlib.Core.Path.{_≡_};
 ghost use Prim.Native.Nat.{_≤_};
 ghost use lib.ListN.{length};
 ghost use Rattle.groups.specs.Traced.{outcome};
-ghost use Rattle.walk.specs.Trace.{guessFinite, mostSteps, capFits, callFitness, room, walkOf, traceOf};
+ghost use Rattle.walk.specs.Trace.{guessFinite, mostSteps, capFits, callFitness, room, unwalkedOf, walkOf, traceOf};
 
 // The least and the greatest step cap.
 const LEAST_STEPS: usize = 2;
@@ -66,6 +66,16 @@ fn call_fitness(
     Verdict::Passed
 }
 
+// What is answered where no walk begins: the meeting's refusal. A meeting alone is one point and no line.
+fn unwalked(met: Met) -> Traced
+    ensures { λ r. ⌜ r ≡ unwalkedOf met ⌝ }
+{
+    match met {
+        Met::At(_) => Traced::Refused(Refusal::TooShort),
+        Met::Refused(refusal) => Traced::Refused(refusal),
+    }
+}
+
 // The walk from a guess: 9 where it leads to no meeting, 10 where the meeting has no direction; zeros are left with both.
 fn walk_from(
     points: &mut [f64],
@@ -78,9 +88,10 @@ fn walk_from(
     requires { ⌜ (n ≤ mostSteps) × (length (now points) ≡ room n) ⌝ }
     ensures { λ r. ⌜ outcome r (now (points .exit)) ≡ walkOf a b tol guess n ⌝ }
 {
-    let Met::At(seed) = meet(a, b, guess, tol) else {
+    let met = meet(a, b, guess, tol);
+    let Met::At(seed) = met else {
         clear(&mut *points, 0);
-        return Traced::Refused(Refusal::NoMeeting);
+        return unwalked(met);
     };
     let Direction::Along(t) = tangent(a, b, seed, tol) else {
         clear(&mut *points, 0);

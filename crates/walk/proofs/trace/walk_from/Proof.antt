@@ -1,5 +1,5 @@
 -- A law for each way out, from what the meeting and the tangent say.
-use mathlib.Core.Path.{_≡_, sym, ap, _∙_}
+use mathlib.Core.Path.{_≡_, refl, sym, ap, _∙_}
 use mathlib.Core.List.{List, _++_}
 use Prim.Native.Nat.{ℕ, _-_}
 use borrow.Author.Needs.{needs}
@@ -19,17 +19,18 @@ use Rattle.tangent.specs.declared.Direction.the-variants as direction
 use Rattle.tangent.specs.Tangent.{tangentOf}
 use Rattle.walk.specs.Lent.{ownRow}
 use Rattle.walk.specs.Line.{lineOf}
+use Rattle.groups.specs.declared.traced.Traced.{Traced}
 use Rattle.groups.specs.declared.traced.Traced.the-variants.{Refused}
 use Rattle.groups.specs.Traced.{outcome}
-use Rattle.walk.specs.Trace.{room, refusedWalk, settled, walkOf}
+use Rattle.walk.specs.Trace.{room, refusedWalk, settled, unwalkedOf, walkOf}
 use Rattle.walk.proofs.Lists.{cleared}
 use Rattle.walk.proofs.trace.walk_from.Statement.{statement}
 use Rattle.walk.proofs.trace.walk_from.Tie as tie
 
 module _ (a b : Patch) (tol : Tolerance) (guess : Parameters) (n : ℕ) where
-  nine : meetOf a b guess tol ≡ met.Nothing → refusedWalk refusal.NoMeeting n ≡ walkOf a b tol guess n
+  unmet : (r : Refusal) → meetOf a b guess tol ≡ met.Refused r → refusedWalk r n ≡ walkOf a b tol guess n
   unfolding walkOf
-  nine m = rw m
+  unmet r m = rw m
 
   ten : (x : Parameters) → meetOf a b guess tol ≡ met.At x → tangentOf a b x tol ≡ direction.Missing → refusedWalk refusal.NoDirection n ≡ walkOf a b tol guess n
   unfolding walkOf
@@ -40,15 +41,15 @@ module _ (a b : Patch) (tol : Tolerance) (guess : Parameters) (n : ℕ) where
   along x t m d = rw (m, d)
 
 -- a refusal leaves zeros
-zeros : (l : List Float) (n : ℕ) {m : List Float} (r : Refusal) → length l ≡ room n → m ≡ take 0 l ++ replicate (length l - 0) positiveZero
-    → outcome (Refused r) m ≡ refusedWalk r n
-zeros l n r h e = ap (outcome (Refused r)) (e ∙ cleared l ∙ ap (λ (k : ℕ). replicate k positiveZero) h)
+zeros : (l : List Float) (n : ℕ) {m : List Float} {t : Traced} (r : Refusal) → t ≡ Refused r → length l ≡ room n → m ≡ take 0 l ++ replicate (length l - 0) positiveZero
+    → outcome t m ≡ refusedWalk r n
+zeros l n r f h e = rw f (ap (outcome (Refused r)) (e ∙ cleared l ∙ ap (λ (k : ℕ). replicate k positiveZero) h))
 
 meet-requires : tie.Need-meet-requires
 meet-requires c κs = search needs
 
-enum-known-seed : tie.Need-enum-known-seed
-enum-known-seed c = search needs
+enum-known-met : tie.Need-enum-known-met
+enum-known-met c = search needs
 
 enum-told : tie.Need-enum-told
 enum-told c = search needs
@@ -56,16 +57,20 @@ enum-told c = search needs
 clear-requires : tie.Need-clear-requires
 clear-requires c κs = search needs
 
+unwalked-requires : tie.Need-unwalked-requires
+unwalked-requires c κs = search needs
+
 same-length : tie.Need-same-length
 same-length c = search needs
 
 returns : tie.Need-returns
 returns c =
-    let u = c .before .before in
+    let u = c .before .before .before in
     let t = u .before .before in
     let m = t .before .before in
     let s = m .before .before in
-    zeros (now (s .args .points)) _ _ (s .pre .1) (u .clear .ensures) ∙ nine _ _ _ _ _ (sym (m .meet .ensures) ∙ t .enum-told .given .1)
+    zeros (now (s .args .points)) _ _ (c .unwalked .ensures ∙ ap unwalkedOf (t .enum-told .given .1)) (s .pre .1) (u .clear .ensures)
+    ∙ unmet _ _ _ _ _ _ (sym (m .meet .ensures) ∙ t .enum-told .given .1)
 
 tangent-requires : tie.Need-tangent-requires
 tangent-requires c κs = search needs
@@ -90,7 +95,7 @@ returns-2 c =
     let x = d .before .before in
     let m = x .before .before in
     let s = m .before .before in
-    zeros (now (s .args .points)) _ _ (s .pre .1) (u .clear2 .ensures) ∙ ten _ _ _ _ _ _ (sym (m .meet .ensures) ∙ x .seed .given .1) (sym (d .tangent .ensures) ∙ t .enum-told2 .given .1)
+    zeros (now (s .args .points)) _ _ refl (s .pre .1) (u .clear2 .ensures) ∙ ten _ _ _ _ _ _ (sym (m .meet .ensures) ∙ x .met .given .1) (sym (d .tangent .ensures) ∙ t .enum-told2 .given .1)
 
 eval-point-requires : tie.Need-eval-point-requires
 eval-point-requires c κs = search needs
@@ -111,10 +116,10 @@ returns-3 c =
     let d = t .before .before in
     let x = d .before .before in
     let m = x .before .before in
-    u .line .ensures ∙ along _ _ _ _ _ _ _ (sym (m .meet .ensures) ∙ x .seed .given .1) (sym (d .tangent .ensures) ∙ t .t .given .1)
+    u .line .ensures ∙ along _ _ _ _ _ _ _ (sym (m .meet .ensures) ∙ x .met .given .1) (sym (d .tangent .ensures) ∙ t .t .given .1)
 
 pub walk-from-spec : {M : Type 1} → statement M
 walk-from-spec =
     tie.close
-    (tie.spec meet-requires enum-known-seed enum-told clear-requires same-length returns tangent-requires enum-known-t enum-told-2
-    clear-requires-2 same-length-2 returns-2 eval-point-requires line-requires same-length-3 returns-3)
+    (tie.spec meet-requires enum-known-met enum-told clear-requires unwalked-requires same-length returns tangent-requires enum-known-t
+    enum-told-2 clear-requires-2 same-length-2 returns-2 eval-point-requires line-requires same-length-3 returns-3)
