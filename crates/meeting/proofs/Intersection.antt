@@ -91,11 +91,11 @@ module _ (a b : Patch) (target : Target) (confusion : Float) (tight : T (tenth �
           go true t o = o
           go false t o = tt
 
-  last-good : (s : Residual) → Own s → Holds (lastTest a b confusion s)
+  last-good : (i : ℕ) (s : Residual) → Own s → Holds (lastTest a b confusion i s)
   unfolding lastTest Holds
-  last-good s o = go (nearOf a b s confusion) (λ t. near-good s confusion o self t)
+  last-good i s o = go (nearOf a b s confusion) (λ t. near-good s confusion o self t)
     where
-      go : (near : Bool) → (T near → IsIntersection a b confusion (s .x) × H (s .x)) → Holds (pick near (At (s .x)) (Refused refusal.NoMeeting))
+      go : (near : Bool) → (T near → IsIntersection a b confusion (s .x) × H (s .x)) → Holds (pick near (At (s .x)) (Refused (refusal.NoMeeting i)))
       go true g = g tt
       go false g = tt
 
@@ -103,29 +103,29 @@ module _ (a b : Patch) (target : Target) (confusion : Float) (tight : T (tenth �
   unfolding Own Holds
   KeptOwn = Kept Own Holds
 
-  after-trials : (s : Residual) → Own s → (r : Trial) → TrialOwn r → KeptOwn (goingOn (afterTrials a b confusion s r))
+  after-trials : (i : ℕ) (s : Residual) → Own s → (r : Trial) → TrialOwn r → KeptOwn (goingOn (afterTrials a b confusion i s r))
   unfolding TrialOwn KeptOwn
-  after-trials s o (trial.Better t) h = h
-  after-trials s o trial.Nothing h = last-good s o
+  after-trials i s o (trial.Better t) h = h
+  after-trials i s o trial.Nothing h = last-good i s o
 
-  after-correction : (s : Residual) → Own s → (r : Correction) → KeptOwn (goingOn (afterSolve a b target confusion s r))
+  after-correction : (i : ℕ) (s : Residual) → Own s → (r : Correction) → KeptOwn (goingOn (afterSolve a b target confusion i s r))
   unfolding KeptOwn
-  after-correction s o (correction.By d) = after-trials s o (trialsOf a b target s d) (trials-own s d o)
-  after-correction s o correction.Singular = tt
+  after-correction i s o (correction.By d) = after-trials i s o (trialsOf a b target s d) (trials-own s d o)
+  after-correction i s o correction.Singular = tt
 
   round-good : (i : ℕ) (s : Residual) → Own s → KeptOwn (roundBody a b target confusion i s)
   unfolding newtonRound KeptOwn
   round-good i s o = go (nearOf a b s (tenth ⊗ confusion)) (λ t. near-good s (tenth ⊗ confusion) o tight t)
     where
       go : (near : Bool) → (T near → IsIntersection a b confusion (s .x) × H (s .x))
-          → KeptOwn (goingOn (pick near (round.End (At (s .x))) (afterSolve a b target confusion s (correctionOf a b target s))))
+          → KeptOwn (goingOn (pick near (round.End (At (s .x))) (afterSolve a b target confusion i s (correctionOf a b target s))))
       go true g = g tt
-      go false g = after-correction s o (correctionOf a b target s)
+      go false g = after-correction i s o (correctionOf a b target s)
 
   newton-holds : (x : Parameters) → H x → Holds (newtonOf a b target x confusion)
   unfolding newtonOf KeptOwn
   newton-holds x h =
-      searched-keeps (roundBody a b target confusion) (lastTest a b confusion) Own Holds round-good (λ s o. last-good s o) 0 mostRounds _ (residual-own x h)
+      searched-keeps (roundBody a b target confusion) (lastTest a b confusion mostRounds) Own Holds round-good (λ s o. last-good mostRounds s o) 0 mostRounds _ (residual-own x h)
 
   newton-has : (x y : Parameters) → H x → newtonOf a b target x confusion ≡ At y → IsIntersection a b confusion y × H y
   unfolding Holds

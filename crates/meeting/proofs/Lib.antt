@@ -1,3 +1,4 @@
 pub mod Symmetric
 pub mod Intersection
+pub mod Rounds
 pub mod Evaluated

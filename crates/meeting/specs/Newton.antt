@@ -1,6 +1,8 @@
 -- `meet` and `land` of marching.rs. Definitions only.
+use mathlib.Core.Path.{_≡_}
 use mathlib.Core.Bool.{Bool, _&&_}
-use Prim.Native.Nat.{ℕ}
+use mathlib.Core.Logic.{_⊎_}
+use Prim.Native.Nat.{ℕ, _≤_, _<_}
 use lib.Ieee.{Float}
 use Rattle.loops.specs.Loop.{pick, Flow, on, out, searched}
 use Rattle.number.specs.Operators.{_⊗_, _<?_, _≤?_}
@@ -12,7 +14,9 @@ use Rattle.geometry.specs.Vector.{magnitudeOf}
 use Rattle.patch.specs.declared.patch.Patch.{Patch}
 use Rattle.patch.specs.declared.patch.Parameters.{Parameters}
 use Rattle.patch.specs.Patch.{insideOf, withinBounds}
+use Rattle.refusal.specs.declared.Refusal.{Refusal}
 use Rattle.refusal.specs.declared.Refusal.the-variants as refusal
+use Rattle.refusal.specs.Refusal.{roundOf}
 use Rattle.meeting.specs.declared.correction.Target.{Target}
 use Rattle.meeting.specs.declared.correction.Target.the-variants.{Free, Plane, Pin}
 use Rattle.meeting.specs.declared.correction.Residual.{Residual}
@@ -58,24 +62,24 @@ trialsOf a b target s d = trialsFrom a b target s d 0 one
 
 -- ---- one round
 
--- "The last test is against confusion itself."
-unfoldable pub lastTest : Patch → Patch → Float → Residual → Met
-lastTest a b confusion s = pick (nearOf a b s confusion) (At (s .x)) (Refused refusal.NoMeeting)
+-- "The last test is against confusion itself."; 02, A2: "9 in every other failed meeting", in the round in which the rounds end
+unfoldable pub lastTest : Patch → Patch → Float → ℕ → Residual → Met
+lastTest a b confusion i s = pick (nearOf a b s confusion) (At (s .x)) (Refused (refusal.NoMeeting i))
 
 -- "Without one the rounds end."
-abbrev pub afterTrials : Patch → Patch → Float → Residual → Trial → Round
-afterTrials a b confusion s (trial.Better t) = round.Next t
-afterTrials a b confusion s trial.Nothing = round.End (lastTest a b confusion s)
+abbrev pub afterTrials : Patch → Patch → Float → ℕ → Residual → Trial → Round
+afterTrials a b confusion i s (trial.Better t) = round.Next t
+afterTrials a b confusion i s trial.Nothing = round.End (lastTest a b confusion i s)
 
--- "A failed solve refuses, even where that last test would pass."
-abbrev pub afterSolve : Patch → Patch → Target → Float → Residual → Correction → Round
-afterSolve a b target confusion s (correction.By d) = afterTrials a b confusion s (trialsOf a b target s d)
-afterSolve a b target confusion s correction.Singular = round.End (Refused refusal.NoMeeting)
+-- "A failed solve refuses, even where that last test would pass."; 02, A2: "with 21, in the place of 9, when a solve gave up"
+abbrev pub afterSolve : Patch → Patch → Target → Float → ℕ → Residual → Correction → Round
+afterSolve a b target confusion i s (correction.By d) = afterTrials a b confusion i s (trialsOf a b target s d)
+afterSolve a b target confusion i s correction.Singular = round.End (Refused (refusal.Singular i))
 
 -- "accepted at once when gap and plane offset are at most a tenth of confusion; else a solve, and up to 12 trials"
-unfoldable pub newtonRound : Patch → Patch → Target → Float → Residual → Round
-newtonRound a b target confusion s =
-    pick (nearOf a b s (tenth ⊗ confusion)) (round.End (At (s .x))) (afterSolve a b target confusion s (correctionOf a b target s))
+unfoldable pub newtonRound : Patch → Patch → Target → Float → ℕ → Residual → Round
+newtonRound a b target confusion i s =
+    pick (nearOf a b s (tenth ⊗ confusion)) (round.End (At (s .x))) (afterSolve a b target confusion i s (correctionOf a b target s))
 
 -- ---- the rounds
 
@@ -88,13 +92,13 @@ abbrev pub goingOn : Round → Flow Residual Met
 goingOn (round.Next t) = on t
 goingOn (round.End m) = out m
 
--- one iteration
+-- the round of index i, "from 0"
 abbrev pub roundBody : Patch → Patch → Target → Float → ℕ → Residual → Flow Residual Met
-roundBody a b target confusion i s = goingOn (newtonRound a b target confusion s)
+roundBody a b target confusion i s = goingOn (newtonRound a b target confusion i s)
 
--- the rounds from the i-th on, then the last test
+-- the rounds from the i-th on, then the last test; "A call that spends all rounds names 32"
 abbrev pub roundsFrom : Patch → Patch → Target → Float → ℕ → Residual → Met
-roundsFrom a b target confusion i s = searched (roundBody a b target confusion) (lastTest a b confusion) i mostRounds (on s)
+roundsFrom a b target confusion i s = searched (roundBody a b target confusion) (lastTest a b confusion mostRounds) i mostRounds (on s)
 
 -- all rounds, from the residual at x
 unfoldable pub newtonOf : Patch → Patch → Target → Parameters → Float → Met
@@ -113,3 +117,14 @@ meetInPlaneOf a b x origin normal tol = newtonOf a b (Plane origin normal) (with
 -- "`land` does the same without plane, one parameter pinned": from the clamped guess with that parameter at its bound
 unfoldable pub landOf : Patch → Patch → Parameters → ℕ → Float → Tolerance → Met
 landOf a b x pin value tol = newtonOf a b (Pin pin) (withParameter (withinBounds a b x) pin value) (tol .confusion)
+
+-- ---- 02, A2: why a meeting fails
+
+-- 9, whose round is at most 32, or 21, whose round is at most 31, for a solve belongs to a round
+abbrev pub Unmet : Refusal → Type 0
+Unmet q = ((q ≡ refusal.NoMeeting (roundOf q)) × (roundOf q ≤ mostRounds)) ⊎ ((q ≡ refusal.Singular (roundOf q)) × (roundOf q < mostRounds))
+
+-- the contract of `meet`, `meet_in_plane` and `land`, whose answer is the one defined
+pub record MetPromise (defined r : Met) : Type 0 where
+  pub answer : r ≡ defined
+  pub unmet : (q : Refusal) → r ≡ Refused q → Unmet q

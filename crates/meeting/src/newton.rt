@@ -15,12 +15,12 @@ use patch::inside;
 use patch::within_bounds;
 use refusal::Refusal;
 ghost use mathlib.Core.Path.{_≡_};
-ghost use Rattle.meeting.specs.Newton.{nearOf, trialsOf, lastTest, newtonRound, newtonOf, meetOf, meetInPlaneOf, landOf};
+ghost use Rattle.meeting.specs.Newton.{nearOf, trialsOf, lastTest, newtonRound, newtonOf, meetOf, meetInPlaneOf, landOf, MetPromise};
 
 // The most trials of a correction, and the most rounds.
 const MOST_TRIALS: usize = 12;
 
-const MOST_ROUNDS: usize = 32;
+const MOST_ROUNDS: u64 = 32;
 
 // Where the surfaces were met, or why they were not.
 pub enum Met {
@@ -66,21 +66,28 @@ fn trials(a: Patch, b: Patch, target: Target, s: Residual, d: Parameters) -> Tri
     Trial::Nothing
 }
 
-// The last test, against confusion itself.
-fn last_test(a: Patch, b: Patch, confusion: f64, s: Residual) -> Met
-    ensures { λ r. ⌜ r ≡ lastTest a b confusion s ⌝ }
+// The last test, against confusion itself, of rounds that end in this one.
+fn last_test(a: Patch, b: Patch, confusion: f64, round: u64, s: Residual) -> Met
+    ensures { λ r. ⌜ r ≡ lastTest a b confusion round s ⌝ }
 {
     if near(a, b, s, confusion) {
         let x = s.x;
         Met::At(x)
     } else {
-        Met::Refused(Refusal::NoMeeting)
+        Met::Refused(Refusal::NoMeeting(round))
     }
 }
 
 // One round: accepted at once, or a correction and its trials.
-fn newton_round(a: Patch, b: Patch, target: Target, confusion: f64, s: Residual) -> Round
-    ensures { λ r. ⌜ r ≡ newtonRound a b target confusion s ⌝ }
+fn newton_round(
+    a: Patch,
+    b: Patch,
+    target: Target,
+    confusion: f64,
+    round: u64,
+    s: Residual,
+) -> Round
+    ensures { λ r. ⌜ r ≡ newtonRound a b target confusion round s ⌝ }
 {
     if near(a, b, s, 0.1 * confusion) {
         let x = s.x;
@@ -88,11 +95,11 @@ fn newton_round(a: Patch, b: Patch, target: Target, confusion: f64, s: Residual)
     }
     let correction = newton_correction(a, b, target, s);
     let Correction::By(d) = correction else {
-        return Round::End(Met::Refused(Refusal::NoMeeting));
+        return Round::End(Met::Refused(Refusal::Singular(round)));
     };
     let trial = trials(a, b, target, s, d);
     let Trial::Better(t) = trial else {
-        return Round::End(last_test(a, b, confusion, s));
+        return Round::End(last_test(a, b, confusion, round, s));
     };
     Round::Next(t)
 }
@@ -102,8 +109,8 @@ fn newton(a: Patch, b: Patch, target: Target, x: Parameters, confusion: f64) -> 
     ensures { λ r. ⌜ r ≡ newtonOf a b target x confusion ⌝ }
 {
     let mut s = residual_at(a, b, target, x);
-    for _ in 0..MOST_ROUNDS {
-        let round = newton_round(a, b, target, confusion, s);
+    for i in 0..MOST_ROUNDS {
+        let round = newton_round(a, b, target, confusion, i, s);
         match round {
             Round::End(met) => {
                 return met;
@@ -113,12 +120,12 @@ fn newton(a: Patch, b: Patch, target: Target, x: Parameters, confusion: f64) -> 
             }
         }
     }
-    last_test(a, b, confusion, s)
+    last_test(a, b, confusion, MOST_ROUNDS, s)
 }
 
 // A meeting near x.
 pub fn meet(a: Patch, b: Patch, x: Parameters, tol: Tolerance) -> Met
-    ensures { λ r. ⌜ r ≡ meetOf a b x tol ⌝ }
+    ensures { λ r. ⌜ MetPromise (meetOf a b x tol) r ⌝ }
 {
     newton(a, b, Target::Free, within_bounds(a, b, x), tol.confusion)
 }
@@ -132,7 +139,7 @@ pub fn meet_in_plane(
     normal: Vector3D,
     tol: Tolerance,
 ) -> Met
-    ensures { λ r. ⌜ r ≡ meetInPlaneOf a b x origin normal tol ⌝ }
+    ensures { λ r. ⌜ MetPromise (meetInPlaneOf a b x origin normal tol) r ⌝ }
 {
     newton(
         a,
@@ -145,7 +152,7 @@ pub fn meet_in_plane(
 
 // A meeting near x with the parameter `pin` held at the value.
 pub fn land(a: Patch, b: Patch, x: Parameters, pin: usize, value: f64, tol: Tolerance) -> Met
-    ensures { λ r. ⌜ r ≡ landOf a b x pin value tol ⌝ }
+    ensures { λ r. ⌜ MetPromise (landOf a b x pin value tol) r ⌝ }
 {
     let start = with_parameter(within_bounds(a, b, x), pin, value);
     newton(a, b, Target::Pin(pin), start, tol.confusion)

@@ -15,6 +15,9 @@ use tangent::Direction;
 ghost use mathlib.Core.Path.{_≡_};
 ghost use Prim.Native.Nat.{_≤_};
 ghost use lib.ListN.{length};
+ghost use Rattle.refusal.specs.declared.Refusal.{Refusal};
+ghost use Rattle.meeting.specs.declared.newton.Met.the-variants.{Refused};
+ghost use Rattle.meeting.specs.Newton.{Unmet};
 ghost use Rattle.probe.specs.Probe.{probed};
 ghost use Rattle.probe.specs.Steps.{probeTangent, probePredict, probeLeaving, probeMeet, probeMeetInPlane, probeLand, probeStep, writtenMet};
 
@@ -60,9 +63,9 @@ fn probe_leaving(c: Call, input: &[f64], output: &mut [f64]) -> u64
     }
 }
 
-// 1 and the meeting, or 0.
+// 1 and the meeting, or the refusal: 2^8 times its number and 2^16 times its round.
 fn put_met(met: Met, output: &mut [f64]) -> u64
-    requires { ⌜ 4 ≤ length (now output) ⌝ }
+    requires { ⌜ (4 ≤ length (now output)) × ((q : Refusal) → met ≡ Refused q → Unmet q) ⌝ }
     ensures { λ r. ⌜ probed r (now (output .exit)) ≡ writtenMet met (now (output .entry)) ⌝ }
 {
     match met {
@@ -70,7 +73,7 @@ fn put_met(met: Met, output: &mut [f64]) -> u64
             put_parameters(output, y);
             1
         }
-        Met::Refused(_) => 0,
+        Met::Refused(refusal) => refusal.number() * 256 + refusal.round() * 65536,
     }
 }
 

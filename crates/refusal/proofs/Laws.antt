@@ -6,7 +6,7 @@ use native.Mathlib.Omega.{arith}
 use borrow.Author.Tests.{ne-eqb}
 use lib.Dec.{eqb}
 use Rattle.refusal.specs.declared.Refusal.{Refusal}
-use Rattle.refusal.specs.declared.Refusal.the-variants.{Number, Size, Window, TurnMark, Tolerance, Parameter, StepCap, Lent, NoMeeting, NoDirection, TooShort}
+use Rattle.refusal.specs.declared.Refusal.the-variants.{Number, Size, Window, TurnMark, Tolerance, Parameter, StepCap, Lent, NoMeeting, Singular, NoDirection, TooShort}
 use Rattle.refusal.specs.declared.Refusal.the-variants.{Claim, NotOwnPoint, OutsideWindow, Gap, Chord, BoxNumber, Coordinate, JobFile, TraceFile}
 use Rattle.refusal.specs.Refusal.{numberOf}
 
@@ -19,7 +19,8 @@ number-byte Tolerance = (omega arith, omega arith)
 number-byte Parameter = (omega arith, omega arith)
 number-byte StepCap = (omega arith, omega arith)
 number-byte Lent = (omega arith, omega arith)
-number-byte NoMeeting = (omega arith, omega arith)
+number-byte (NoMeeting i) = (omega arith, omega arith)
+number-byte (Singular i) = (omega arith, omega arith)
 number-byte NoDirection = (omega arith, omega arith)
 number-byte TooShort = (omega arith, omega arith)
 number-byte Claim = (omega arith, omega arith)

@@ -66,7 +66,7 @@ callFitness a b tol guess n l = firstRefusal (callTests a b tol guess n l)
 abbrev pub room : ℕ → ℕ
 room n = width * (2 * n + 1)
 
--- "Refusals 9, 10 and 11 leave its first 7(2n+1) numbers positive zero."
+-- "Refusals 9, 10 and 11 leave its first 7(2n+1) numbers positive zero."; 02, A2: "Buffer rules for 9 cover the split number"
 abbrev pub refusedWalk : Refusal → ℕ → Outcome
 refusedWalk r n = outcome (Refused r) (replicate (room n) positiveZero)
 
@@ -94,7 +94,7 @@ abbrev pub unwalkedOf : Met → Traced
 unwalkedOf (met.At x) = Refused refusal.TooShort
 unwalkedOf (met.Refused r) = Refused r
 
--- 9: "the guess leads to no meeting"; "a caller goes on only with it, else 9"
+-- 9: "the guess leads to no meeting"; "a caller goes on only with it, else 9"; 02, A2: "21, in the place of 9, when a solve gave up"
 abbrev pub afterSeed : Patch → Patch → Tolerance → ℕ → Met → Outcome
 afterSeed a b tol n (met.At x) = afterDirection a b tol n x (tangentOf a b x tol)
 afterSeed a b tol n (met.Refused r) = refusedWalk r n

@@ -76,7 +76,7 @@ fn unwalked(met: Met) -> Traced
     }
 }
 
-// The walk from a guess: 9 where it leads to no meeting, 10 where the meeting has no direction; zeros are left with both.
+// The walk from a guess: 9 or 21 where it leads to no meeting, 10 where the meeting has no direction; zeros are left with each.
 fn walk_from(
     points: &mut [f64],
     a: Patch,

@@ -1,5 +1,6 @@
 use borrow.Author.Needs.{needs}
 use Rattle.meeting.specs.Newton.{landOf}
+use Rattle.meeting.proofs.Rounds.{newton-promised}
 use Rattle.meeting.proofs.newton.land.Statement.{statement}
 use Rattle.meeting.proofs.newton.land.Tie as tie
 
@@ -14,7 +15,7 @@ newton-requires c κs = search needs
 
 returns : tie.Need-returns
 unfolding landOf
-returns c = rw (c .newton .ensures, c .before .with-parameter .ensures, c .before .before .within-bounds .ensures)
+returns c = newton-promised _ _ _ _ _ (rw (c .newton .ensures, c .before .with-parameter .ensures, c .before .before .within-bounds .ensures))
 
 pub land-spec : {M : Type 1} → statement M
 land-spec = tie.close (tie.spec within-bounds-requires with-parameter-requires newton-requires returns)

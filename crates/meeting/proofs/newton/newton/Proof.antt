@@ -9,10 +9,10 @@ use Rattle.meeting.proofs.newton.newton.Statement.{statement}
 use Rattle.meeting.proofs.newton.newton.Tie as tie
 
 abbrev Inv-loop : tie.InvT-loop
-Inv-loop a b target confusion s₀ counter₀ s counter = (roundsFrom a b target confusion counter s ≡ roundsFrom a b target confusion 0 s₀) × (counter ≤ mostRounds)
+Inv-loop a b target confusion s₀ i₀ s i = (roundsFrom a b target confusion i s ≡ roundsFrom a b target confusion 0 s₀) × (i ≤ mostRounds)
 
 abbrev μ-loop : tie.MeasureT-loop
-μ-loop a b target confusion s₀ counter₀ s counter = mostRounds - counter
+μ-loop a b target confusion s₀ i₀ s i = mostRounds - i
 
 -- the first state is that of the definition
 start-is : (c : tie.After-residual-at Inv-loop μ-loop)
@@ -43,8 +43,8 @@ returns c =
 enum-known-round-2 : tie.Need-enum-known-round-2 Inv-loop μ-loop
 enum-known-round-2 c = search needs
 
-add-counter : tie.Need-add-counter Inv-loop μ-loop
-add-counter c = omega (arith, c .before .before .before .before .loop-test .taken)
+add-i : tie.Need-add-i Inv-loop μ-loop
+add-i c = omega (arith, c .before .before .before .before .loop-test .taken)
 
 loop-less : tie.Need-loop-less Inv-loop μ-loop
 loop-less c = omega (arith, c .before .before .before .before .loop-test .taken)
@@ -64,5 +64,5 @@ returns-2 c = c .last-test .ensures ∙ searched-done _ _ _ mostRounds (c .befor
 pub newton-spec : {M : Type 1} → statement M
 newton-spec =
     tie.close
-    (tie.spec Inv-loop μ-loop residual-at-requires loop-holds newton-round-requires enum-known-round returns enum-known-round-2 add-counter
+    (tie.spec Inv-loop μ-loop residual-at-requires loop-holds newton-round-requires enum-known-round returns enum-known-round-2 add-i
     loop-less loop-again last-test-requires returns-2)

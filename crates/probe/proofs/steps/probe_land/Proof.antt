@@ -19,7 +19,7 @@ returns : tie.Need-returns
 unfolding probeLand
 returns c =
     let p = c .before .before in
-    rw (← p .before .before .land .ensures) (p .put-met .ensures)
+    rw (← p .before .before .land .ensures .answer) (p .put-met .ensures)
 
 pub probe-land-spec : {M : Type 1} → statement M
 probe-land-spec = tie.close (tie.spec shared-slice-read-land land-requires put-met-requires same-length returns)

@@ -16,7 +16,7 @@ returns : tie.Need-returns
 unfolding probeMeet
 returns c =
     let p = c .before .before in
-    rw (← p .before .before .meet .ensures) (p .put-met .ensures)
+    rw (← p .before .before .meet .ensures .answer) (p .put-met .ensures)
 
 pub probe-meet-spec : {M : Type 1} → statement M
 probe-meet-spec = tie.close (tie.spec meet-requires put-met-requires same-length returns)

@@ -23,7 +23,7 @@ unfolding probeMeetInPlane
 returns c =
     let p = c .before .before in
     let m = p .before .before in
-    rw (← m .before .before .point .ensures, ← m .before .vector .ensures, ← m .meet-in-plane .ensures) (p .put-met .ensures)
+    rw (← m .before .before .point .ensures, ← m .before .vector .ensures, ← m .meet-in-plane .ensures .answer) (p .put-met .ensures)
 
 pub probe-meet-in-plane-spec : {M : Type 1} → statement M
 probe-meet-in-plane-spec = tie.close (tie.spec point-requires vector-requires meet-in-plane-requires put-met-requires same-length returns)

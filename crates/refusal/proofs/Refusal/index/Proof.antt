@@ -62,6 +62,9 @@ enum-told-15 c = search needs
 enum-told-16 : tie.Need-enum-told-16
 enum-told-16 c = search needs
 
+enum-told-17 : tie.Need-enum-told-17
+enum-told-17 c = search needs
+
 returns : tie.Need-returns
 returns c = rw (c .before .self .given .1)
 
@@ -122,10 +125,13 @@ returns-19 c = rw (c .enum-told15 .given .1)
 returns-20 : tie.Need-returns-20
 returns-20 c = rw (c .enum-told16 .given .1)
 
+returns-21 : tie.Need-returns-21
+returns-21 c = rw (c .enum-told17 .given .1)
+
 pub index-spec : {M : Type 1} → statement M
 index-spec =
     tie.close
     (tie.spec enum-known-self enum-known-self-2 enum-known-self-3 enum-known-self-4 enum-told enum-told-2 enum-told-3 enum-told-4
     enum-told-5 enum-told-6 enum-told-7 enum-told-8 enum-told-9 enum-told-10 enum-told-11 enum-told-12 enum-told-13 enum-told-14
-    enum-told-15 enum-told-16 returns returns-2 returns-3 returns-4 returns-5 returns-6 returns-7 returns-8 returns-9 returns-10 returns-11
-    returns-12 returns-13 returns-14 returns-15 returns-16 returns-17 returns-18 returns-19 returns-20)
+    enum-told-15 enum-told-16 enum-told-17 returns returns-2 returns-3 returns-4 returns-5 returns-6 returns-7 returns-8 returns-9
+    returns-10 returns-11 returns-12 returns-13 returns-14 returns-15 returns-16 returns-17 returns-18 returns-19 returns-20 returns-21)

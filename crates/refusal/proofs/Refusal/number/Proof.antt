@@ -62,6 +62,9 @@ enum-told-19 c = search needs
 enum-told-20 : tie.Need-enum-told-20
 enum-told-20 c = search needs
 
+enum-told-21 : tie.Need-enum-told-21
+enum-told-21 c = search needs
+
 returns : tie.Need-returns
 returns c = rw (c .enum-told .given .1)
 
@@ -122,10 +125,13 @@ returns-19 c = rw (c .enum-told19 .given .1)
 returns-20 : tie.Need-returns-20
 returns-20 c = rw (c .enum-told20 .given .1)
 
+returns-21 : tie.Need-returns-21
+returns-21 c = rw (c .enum-told21 .given .1)
+
 pub number-spec : {M : Type 1} → statement M
 number-spec =
     tie.close
     (tie.spec enum-told enum-told-2 enum-told-3 enum-told-4 enum-told-5 enum-told-6 enum-told-7 enum-told-8 enum-told-9 enum-told-10
     enum-told-11 enum-told-12 enum-told-13 enum-told-14 enum-told-15 enum-told-16 enum-told-17 enum-told-18 enum-told-19 enum-told-20
-    returns returns-2 returns-3 returns-4 returns-5 returns-6 returns-7 returns-8 returns-9 returns-10 returns-11 returns-12 returns-13
-    returns-14 returns-15 returns-16 returns-17 returns-18 returns-19 returns-20)
+    enum-told-21 returns returns-2 returns-3 returns-4 returns-5 returns-6 returns-7 returns-8 returns-9 returns-10 returns-11 returns-12
+    returns-13 returns-14 returns-15 returns-16 returns-17 returns-18 returns-19 returns-20 returns-21)

@@ -20,7 +20,7 @@ enum-told c = search needs
 
 returns : tie.Need-returns
 unfolding innerOf
-returns c = rw (← c .before .before .before .before .scale .ensures, ← c .before .before .before .add .ensures, ← c .before .before .meet-in-plane .ensures, c .enum-told .given .1)
+returns c = rw (← c .before .before .before .before .scale .ensures, ← c .before .before .before .add .ensures, ← c .before .before .meet-in-plane .ensures .answer, c .enum-told .given .1)
 
 tangent-requires : tie.Need-tangent-requires
 tangent-requires c κs = search needs
@@ -37,7 +37,7 @@ returns-2 c =
     let t = c .before .before in
     let m = t .before .before in
     let p = m .before .before in
-    rw (← p .before .before .scale .ensures, ← p .before .add .ensures, ← p .meet-in-plane .ensures, m .met .given .1, ← t .tangent .ensures, c .enum-told2 .given .1)
+    rw (← p .before .before .scale .ensures, ← p .before .add .ensures, ← p .meet-in-plane .ensures .answer, m .met .given .1, ← t .tangent .ensures, c .enum-told2 .given .1)
 
 eval-point-requires : tie.Need-eval-point-requires
 eval-point-requires c κs = search needs
@@ -56,7 +56,7 @@ returns-3 c =
     let t = d .before .before in
     let m = t .before .before in
     let p = m .before .before in
-    rw (c .onward .ensures, c .before .scale2 .ensures, q .eval-point .ensures, ← p .before .before .scale .ensures, ← p .before .add .ensures, ← p .meet-in-plane .ensures)
+    rw (c .onward .ensures, c .before .scale2 .ensures, q .eval-point .ensures, ← p .before .before .scale .ensures, ← p .before .add .ensures, ← p .meet-in-plane .ensures .answer)
     (rw (m .met .given .1, ← t .tangent .ensures, d .direction .given .1))
 
 pub inner-spec : {M : Type 1} → statement M

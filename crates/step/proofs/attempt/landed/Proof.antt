@@ -14,7 +14,7 @@ enum-told c = search needs
 
 returns : tie.Need-returns
 unfolding landedOf
-returns c = rw (← c .before .before .land .ensures, c .enum-told .given .1)
+returns c = rw (← c .before .before .land .ensures .answer, c .enum-told .given .1)
 
 eval-point-requires : tie.Need-eval-point-requires
 eval-point-requires c κs = search needs
@@ -27,14 +27,14 @@ unfolding landedOf
 returns-2 c =
     let q = c .before .before in
     let m = q .before .before in
-    rw (← m .before .before .land .ensures, m .met .given .1, ← q .eval-point .ensures, ← c .before .landing-kept .ensures, c .if1 .taken)
+    rw (← m .before .before .land .ensures .answer, m .met .given .1, ← q .eval-point .ensures, ← c .before .landing-kept .ensures, c .if1 .taken)
 
 returns-3 : tie.Need-returns-3
 unfolding landedOf
 returns-3 c =
     let q = c .before .before in
     let m = q .before .before in
-    rw (← m .before .before .land .ensures, m .met .given .1, ← q .eval-point .ensures, ← c .before .landing-kept .ensures, c .if1 .left)
+    rw (← m .before .before .land .ensures .answer, m .met .given .1, ← q .eval-point .ensures, ← c .before .landing-kept .ensures, c .if1 .left)
 
 pub landed-spec : {M : Type 1} → statement M
 landed-spec = tie.close (tie.spec land-requires enum-known-met enum-told returns eval-point-requires landing-kept-requires returns-2 returns-3)

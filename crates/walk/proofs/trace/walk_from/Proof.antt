@@ -70,7 +70,7 @@ returns c =
     let m = t .before .before in
     let s = m .before .before in
     zeros (now (s .args .points)) _ _ (c .unwalked .ensures ∙ ap unwalkedOf (t .enum-told .given .1)) (s .pre .1) (u .clear .ensures)
-    ∙ unmet _ _ _ _ _ _ (sym (m .meet .ensures) ∙ t .enum-told .given .1)
+    ∙ unmet _ _ _ _ _ _ (sym (m .meet .ensures .answer) ∙ t .enum-told .given .1)
 
 tangent-requires : tie.Need-tangent-requires
 tangent-requires c κs = search needs
@@ -95,7 +95,7 @@ returns-2 c =
     let x = d .before .before in
     let m = x .before .before in
     let s = m .before .before in
-    zeros (now (s .args .points)) _ _ refl (s .pre .1) (u .clear2 .ensures) ∙ ten _ _ _ _ _ _ (sym (m .meet .ensures) ∙ x .met .given .1) (sym (d .tangent .ensures) ∙ t .enum-told2 .given .1)
+    zeros (now (s .args .points)) _ _ refl (s .pre .1) (u .clear2 .ensures) ∙ ten _ _ _ _ _ _ (sym (m .meet .ensures .answer) ∙ x .met .given .1) (sym (d .tangent .ensures) ∙ t .enum-told2 .given .1)
 
 eval-point-requires : tie.Need-eval-point-requires
 eval-point-requires c κs = search needs
@@ -116,7 +116,7 @@ returns-3 c =
     let d = t .before .before in
     let x = d .before .before in
     let m = x .before .before in
-    u .line .ensures ∙ along _ _ _ _ _ _ _ (sym (m .meet .ensures) ∙ x .met .given .1) (sym (d .tangent .ensures) ∙ t .t .given .1)
+    u .line .ensures ∙ along _ _ _ _ _ _ _ (sym (m .meet .ensures .answer) ∙ x .met .given .1) (sym (d .tangent .ensures) ∙ t .t .given .1)
 
 pub walk-from-spec : {M : Type 1} → statement M
 walk-from-spec =
