@@ -1,12 +1,14 @@
 -- The words hold their parts apart, and 0 means that nothing is refused.
 use mathlib.Core.Path.{_≡_, refl, sym, ap, _∙_, subst}
 use mathlib.Core.List.{List}
-use Prim.Native.Nat.{ℕ, _+_, _*_, _/_, _%_, _^_, _<_}
+use mathlib.Core.Logic.{⊎-elim}
+use Prim.Native.Nat.{ℕ, _+_, _*_, _/_, _%_, _^_, _≤_, _<_}
 use native.Mathlib.Omega.{arith}
 use lib.Ieee.{Float}
 use Rattle.refusal.specs.declared.Refusal.{Refusal}
-use Rattle.refusal.specs.Refusal.{numberOf, indexOf}
-use Rattle.refusal.proofs.Laws.{number-positive, number-small}
+use Rattle.refusal.specs.declared.Refusal.the-variants as variant
+use Rattle.refusal.specs.Refusal.{numberOf, indexOf, roundOf}
+use Rattle.refusal.proofs.Laws.{number-positive, number-small, Roundless, which, told-unmet, told-singular}
 use Rattle.geometry.specs.declared.tolerance.Tolerance.{Tolerance}
 use Rattle.patch.specs.declared.patch.Patch.{Patch}
 use Rattle.patch.specs.declared.patch.Parameters.{Parameters}
@@ -23,8 +25,10 @@ use Rattle.job.specs.declared.file.Job.{Job}
 use Rattle.job.specs.declared.file.JobRead.{JobRead}
 use Rattle.job.specs.declared.file.JobRead.the-variants.{Whole, Refused}
 use Rattle.job.specs.File.{jobOf}
-use Rattle.passing.specs.Promises.{JobPasses, TracePromise, CheckPromise}
-use Rattle.capi.specs.Answer.{numberIn, closingIn, startIn, countIn}
+use Rattle.job.proofs.Unread.{unread}
+use Rattle.meeting.proofs.Rounds.{unmet-round}
+use Rattle.passing.specs.Promises.{JobPasses, GuessUnmet, JobUnmet, TracePromise, CheckPromise}
+use Rattle.capi.specs.Answer.{numberIn, closingIn, roundIn, startIn, countIn}
 use Rattle.capi.specs.Check.{checkedWord, checkAnswer, CheckWord}
 use Rattle.capi.specs.Trace.{tracedWord, Bounded, traceAnswer, TraceWord}
 
@@ -38,43 +42,79 @@ number-fits r = let h = number-small r in omega (arith, h)
 -- ---- the trace's word
 
 module _ {a b : Patch} {tol : Tolerance} {guess : Parameters} {cap : ℕ} {before after : List Float} where
+  -- 9 and 21 have a round of at most 32, the others none
+  round-fits : (q : Refusal) → TracePromise a b tol guess cap before after (traced.Refused q) → roundOf q < 256
+  round-fits q p =
+      ⊎-elim (λ (e : q ≡ variant.NoMeeting (roundOf q)). small (variant.NoMeeting (roundOf q)) (p .unmet (roundOf q) (ap traced.Refused e)))
+      (λ h.
+      ⊎-elim (λ (e : q ≡ variant.Singular (roundOf q)). small (variant.Singular (roundOf q)) (p .singular (roundOf q) (ap traced.Refused e)))
+      (λ (e : Roundless q). omega (arith, e .0)) h)
+      (which q)
+    where
+      small : (r : Refusal) → GuessUnmet a b tol guess cap before r → roundOf r < 256
+      small r g = let h = unmet-round r (g .round) in omega (arith, h)
+
   -- what `trace` answers has room in a word
   pub bounded : (r : Traced) → TracePromise a b tol guess cap before after r → Bounded r
-  bounded (traced.Refused q) p = record { count = omega arith; start = omega arith; closing = omega arith }
+  bounded (traced.Refused q) p = record { count = omega arith; start = omega arith; closing = omega arith; round = round-fits q p }
   bounded (traced.Line count start closing) p =
       let h = p .passes refl in
       let m = h .most in
       let s = h .among in
       let k = code-small (h .closed) in
-      record { count = omega (arith, m); start = omega (arith, m, s); closing = omega (arith, k) }
+      record { count = omega (arith, m); start = omega (arith, m, s); closing = omega (arith, k); round = omega arith }
 
 -- so a line has
 pub line-fits : {t : Traced} {count start closing : ℕ} → t ≡ traced.Line count start closing → Bounded t → (count < 4294967296) × ((start < 65536) × (closing < 256))
 line-fits e h = let b = subst Bounded e h in (b .count, (b .start, b .closing))
 
+pub round-told : {t : Traced} {q : Refusal} → t ≡ traced.Refused q → Bounded t → roundOf q < 256
+round-told e h = subst Bounded e h .round
+
 -- the parts of a line's word
 module _ (code start count : ℕ) (h : code < 256) where
-  code-part : (0 + code * 2 ^ 8 + start * 2 ^ 16 + count * 2 ^ 32) / 2 ^ 8 % 2 ^ 8 ≡ code
+  code-part : (code * 2 ^ 8 + start * 2 ^ 16 + count * 2 ^ 32) / 2 ^ 8 % 2 ^ 8 ≡ code
   code-part =
-      let e : (0 + code * 256 + start * 65536 + count * 4294967296) / 256 ≡ code + (start + count * 65536) * 256 = omega (arith, h) in
+      let e : (code * 256 + start * 65536 + count * 4294967296) / 256 ≡ code + (start + count * 65536) * 256 = omega (arith, h) in
       rw e (omega (arith, h))
 
   module _ (k : start < 65536) where
-    start-part : (0 + code * 2 ^ 8 + start * 2 ^ 16 + count * 2 ^ 32) / 2 ^ 16 % 2 ^ 16 ≡ start
+    start-part : (code * 2 ^ 8 + start * 2 ^ 16 + count * 2 ^ 32) / 2 ^ 16 % 2 ^ 16 ≡ start
     start-part =
-        let e : (0 + code * 256 + start * 65536 + count * 4294967296) / 65536 ≡ start + count * 65536 = omega (arith, h, k) in
+        let e : (code * 256 + start * 65536 + count * 4294967296) / 65536 ≡ start + count * 65536 = omega (arith, h, k) in
         rw e (omega (arith, k))
 
-    count-part : (0 + code * 2 ^ 8 + start * 2 ^ 16 + count * 2 ^ 32) / 2 ^ 32 ≡ count
+    count-part : (code * 2 ^ 8 + start * 2 ^ 16 + count * 2 ^ 32) / 2 ^ 32 ≡ count
     count-part = omega (arith, h, k)
+
+-- a refusal's word, and its parts
+refused-word : (q : Refusal) → tracedWord (traced.Refused q) ≡ numberOf q + roundOf q * 2 ^ 8
+unfolding tracedWord
+refused-word q = refl
+
+refused-number : (q : Refusal) → numberIn (tracedWord (traced.Refused q)) ≡ numberOf q
+unfolding tracedWord
+refused-number q = let h = number-small q in let e : (numberOf q + roundOf q * 256) % 256 ≡ numberOf q = omega (arith, h) in e
+
+refused-round : (q : Refusal) → roundOf q < 256 → roundIn (tracedWord (traced.Refused q)) ≡ roundOf q
+unfolding tracedWord
+refused-round q k =
+    let h = number-small q in
+    let e : (numberOf q + roundOf q * 256) / 256 ≡ roundOf q = omega (arith, h) in
+    rw e (omega (arith, k))
 
 -- a low byte of 0: nothing is refused, and the parts read out of the word are the answer's
 pub parts : (r : Traced) → Bounded r → numberIn (tracedWord r) ≡ 0
     → (trace.refusalOf r ≡ 0) × (countIn (tracedWord r) ≡ countOf r) × (startIn (tracedWord r) ≡ startOf r) × (closingIn (tracedWord r) ≡ closingOf r)
 unfolding tracedWord
-parts (traced.Refused q) b z = absurd (unlike-zero q (let e : numberOf q % 256 ≡ 0 = omega (arith, z) in e))
+parts (traced.Refused q) b z = absurd (unlike-zero q (let h = refused-number q in let e : numberOf q % 256 ≡ 0 = omega (arith, h, z) in e))
 parts (traced.Line count start closing) b z =
     (refl, count-part closing start count (b .closing) (b .start), start-part closing start count (b .closing) (b .start), code-part closing start count (b .closing))
+
+-- two readings of the same bytes
+abbrev jobIn : Job → JobRead → Job
+jobIn d (Whole j) = j
+jobIn d (Refused r) = d
 
 -- so the line in the buffer passes with them
 module _ (bytes : List ℕ) (j : Job) (read : jobOf bytes ≡ Whole j) (before after : List Float) where
@@ -84,6 +124,21 @@ module _ (bytes : List ℕ) (j : Job) (read : jobOf bytes ≡ Whole j) (before a
       let q = parts r (bounded r p) z in
       rw (q .1, q .2, q .3) (record { job = j; read = read; passes = p .passes (q .0); exact = p .exact (q .0) })
 
+  -- a low byte of 9 or 21: the guess is unmet in the round read out of the word
+  told : (refused : ℕ → Refusal) → ((q : Refusal) (i : ℕ) → numberOf q ≡ numberOf (refused i) → q ≡ refused (roundOf q))
+      → ((i : ℕ) → 1 ≤ numberOf (refused i)) → (r : Traced) → TracePromise (j .a) (j .b) (j .tol) (j .guess) (j .cap) before after r
+      → ((i : ℕ) → r ≡ traced.Refused (refused i) → GuessUnmet (j .a) (j .b) (j .tol) (j .guess) (j .cap) before (refused i))
+      → numberIn (tracedWord r) ≡ numberOf (refused (roundIn (tracedWord r))) → JobUnmet bytes before (refused (roundIn (tracedWord r)))
+  unfolding tracedWord
+  told refused by-number positive (traced.Refused q) p g z =
+      let e = by-number q _ (sym (refused-number q) ∙ z) in
+      rw (refused-round q (round-fits q p)) (record { job = j; read = read; guess = g (roundOf q) (ap traced.Refused e) })
+  told refused by-number positive (traced.Line count start closing) p g z =
+      let i = roundIn (closing * 2 ^ 8 + start * 2 ^ 16 + count * 2 ^ 32) in
+      let k = positive i in
+      let e : (closing * 256 + start * 65536 + count * 4294967296) % 256 ≡ 0 = omega arith in
+      absurd (let y : ⊥ = omega (arith, k, e, z) in y)
+
   pub traced-word : {r : Traced} {w : ℕ} → TracePromise (j .a) (j .b) (j .tol) (j .guess) (j .cap) before after r → w ≡ tracedWord r → TraceWord bytes before after w
   unfolding traceAnswer
   traced-word {r} p e =
@@ -91,17 +146,30 @@ module _ (bytes : List ℕ) (j : Job) (read : jobOf bytes ≡ Whole j) (before a
         answer = rw (read, ← p .answer) e;
         buffer = rw (read) (p .buffer);
         passes = rw e (read-back r p);
+        unmet = rw e (told variant.NoMeeting told-unmet (λ i. omega arith) r p (p .unmet));
+        singular = rw e (told variant.Singular told-singular (λ i. omega arith) r p (p .singular));
+        handed-on = λ q u.
+            let same : u .job ≡ j = ap (jobIn j) (sym (u .read)) ∙ ap (jobIn j) read in
+            e ∙ ap tracedWord (p .handed-on q (subst (λ (k : Job). GuessUnmet (k .a) (k .b) (k .tol) (k .guess) (k .cap) before q) same (u .guess))) ∙ refused-word q;
       }
 
 -- a job that can't be read
-pub traced-unread : {bytes : List ℕ} (t : List Float) {w : ℕ} {r : Refusal} → jobOf bytes ≡ Refused r → w ≡ numberOf r → TraceWord bytes t t w
-unfolding traceAnswer
-traced-unread t {r = r} e f =
-    record {
-      answer = rw e f;
-      buffer = rw e refl;
-      passes = λ z. absurd (unlike-zero r (ap (λ (n : ℕ). n % 256) (sym f) ∙ z));
-    }
+module _ (bytes : List ℕ) {r : Refusal} (e : jobOf bytes ≡ Refused r) where
+  unlike-whole : {j : Job} → jobOf bytes ≡ Whole j → ⊥
+  unlike-whole {j} q = let same : Whole j ≡ Refused r = sym q ∙ e in let z : _≡_ {A = ℕ} 0 1 = cc in omega arith
+
+  pub traced-unread : (t : List Float) {w : ℕ} → w ≡ numberOf r → TraceWord bytes t t w
+  unfolding traceAnswer
+  traced-unread t f =
+      let n : numberOf r ≡ 19 = ap numberOf (unread bytes r e) in
+      record {
+        answer = rw e f;
+        buffer = rw e refl;
+        passes = λ z. absurd (unlike-zero r (ap (λ (n : ℕ). n % 256) (sym f) ∙ z));
+        unmet = λ z. absurd (omega (arith, n, f, z));
+        singular = λ z. absurd (omega (arith, n, f, z));
+        handed-on = λ q u. absurd (unlike-whole (u .read));
+      }
 
 -- ---- the check's word
 
@@ -122,10 +190,6 @@ unfolding checkedWord
 passed-word checked.Passed e = refl
 passed-word (checked.Refused r) e = let h = number-positive r in absurd (omega (arith, h, e))
 
-abbrev jobIn : Job → JobRead → Job
-jobIn d (Whole j) = j
-jobIn d (Refused r) = d
-
 module _ (bytes : List ℕ) (l : List Float) (count start code : ℕ) where
   pub checked-word : {j : Job} {s : Verdict} {w : ℕ} → jobOf bytes ≡ Whole j → CheckPromise (j .a) (j .b) (j .tol) l count start code s → w ≡ checkedWord s
       → CheckWord bytes l count start code w
@@ -145,5 +209,5 @@ module _ (bytes : List ℕ) (l : List Float) (count start code : ℕ) where
       record {
         answer = rw e f;
         passes = λ z. let h = number-positive r in absurd (omega (arith, h, sym f ∙ z));
-        complete = λ k q p. let same : Whole k ≡ Refused r = sym q ∙ e in let z : _≡_ {A = ℕ} 0 1 = cc in absurd (omega arith);
+        complete = λ k q p. absurd (unlike-whole bytes e q);
       }

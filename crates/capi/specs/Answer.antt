@@ -20,6 +20,10 @@ numberIn w = w % 2 ^ 8
 abbrev pub closingIn : ℕ → ℕ
 closingIn w = w / 2 ^ 8 % 2 ^ 8
 
+-- the same byte of a walk that is refused: the Newton round beside 9 and 21
+abbrev pub roundIn : ℕ → ℕ
+roundIn w = w / 2 ^ 8 % 2 ^ 8
+
 -- the two bytes above that: the start's index
 abbrev pub startIn : ℕ → ℕ
 startIn w = w / 2 ^ 16 % 2 ^ 16

@@ -3,25 +3,32 @@ use mathlib.Core.Path.{_≡_}
 use mathlib.Core.List.{List}
 use Prim.Native.Nat.{ℕ, _+_, _*_, _^_, _<_}
 use lib.Ieee.{Float}
+use Rattle.refusal.specs.declared.Refusal.{Refusal}
+use Rattle.refusal.specs.declared.Refusal.the-variants as variant
 use Rattle.refusal.specs.Refusal.{numberOf}
+use Rattle.refusal.specs.Refusal as refusal
 use Rattle.groups.specs.declared.traced.Traced.{Traced}
-use Rattle.groups.specs.Traced.{Outcome, refusalOf, countOf, startOf, closingOf}
+use Rattle.groups.specs.declared.traced.Traced.the-variants.{Line, Refused}
+use Rattle.groups.specs.Traced.{Outcome, countOf, startOf, roundOf, closingOf}
 use Rattle.walk.specs.Trace.{traceOf}
 use Rattle.job.specs.declared.file.JobRead.{JobRead}
-use Rattle.job.specs.declared.file.JobRead.the-variants.{Whole, Refused}
+use Rattle.job.specs.declared.file.JobRead.the-variants as read
 use Rattle.job.specs.File.{jobOf}
-use Rattle.passing.specs.Promises.{JobPasses}
-use Rattle.capi.specs.Answer.{Answer, answered, numberIn, closingIn, startIn, countIn}
+use Rattle.passing.specs.Promises.{JobPasses, JobUnmet}
+use Rattle.capi.specs.Answer.{Answer, answered, numberIn, closingIn, roundIn, startIn, countIn}
 
--- the refusal's number + 2^8 times the closing code + 2^16 times the start's index + 2^32 times the count (include/geomcore.h)
+-- of a line 2^8 times the closing code + 2^16 times the start's index + 2^32 times the count; of a refusal its number + 2^8 times the Newton round that 9
+-- and 21 add (include/geomcore.h)
 unfoldable pub tracedWord : Traced → ℕ
-tracedWord t = refusalOf t + closingOf t * 2 ^ 8 + startOf t * 2 ^ 16 + countOf t * 2 ^ 32
+tracedWord (Line count start closing) = closing * 2 ^ 8 + start * 2 ^ 16 + count * 2 ^ 32
+tracedWord (Refused r) = numberOf r + refusal.roundOf r * 2 ^ 8
 
 -- each part of an answer has room in its place of the word
 pub record Bounded (t : Traced) : Type 0 where
   pub count : countOf t < 2 ^ 32
   pub start : startOf t < 2 ^ 16
   pub closing : closingOf t < 2 ^ 8
+  pub round : roundOf t < 2 ^ 8
 
 -- the answer as a word, and the buffer
 abbrev pub outcomeAnswer : Outcome → Answer
@@ -29,8 +36,8 @@ outcomeAnswer o = answered (tracedWord (o .answer)) (o .buffer)
 
 -- 19, or the walk of the job that was read
 abbrev pub traceAfterReading : JobRead → List Float → Answer
-traceAfterReading (Refused r) t = answered (numberOf r) t
-traceAfterReading (Whole j) t = outcomeAnswer (traceOf (j .a) (j .b) (j .tol) (j .guess) (j .cap) t)
+traceAfterReading (read.Refused r) t = answered (numberOf r) t
+traceAfterReading (read.Whole j) t = outcomeAnswer (traceOf (j .a) (j .b) (j .tol) (j .guess) (j .cap) t)
 
 -- by the 347 bytes of a job file; the lent buffer may have any length
 unfoldable pub traceAnswer : List ℕ → List Float → Answer
@@ -42,3 +49,8 @@ pub record TraceWord (bytes : List ℕ) (before after : List Float) (w : ℕ) : 
   pub buffer : after ≡ traceAnswer bytes before .numbers
   -- a low byte of 0: the line in the buffer passes with the count, start and code read out of the word, and its exact gaps are small
   pub passes : numberIn w ≡ 0 → JobPasses bytes after (countIn w) (startIn w) (closingIn w)
+  -- (02, A2) a low byte of 9 or 21 and the byte above it are what `meet` of the job's guess refuses with, and its round; so the word is that of a guess
+  -- unmet exactly when the guess is
+  pub unmet : numberIn w ≡ numberOf (variant.NoMeeting (roundIn w)) → JobUnmet bytes before (variant.NoMeeting (roundIn w))
+  pub singular : numberIn w ≡ numberOf (variant.Singular (roundIn w)) → JobUnmet bytes before (variant.Singular (roundIn w))
+  pub handed-on : (q : Refusal) → JobUnmet bytes before q → w ≡ numberOf q + refusal.roundOf q * 2 ^ 8

@@ -5,10 +5,13 @@ use Prim.Native.Nat.{ℕ}
 use native.Mathlib.Omega.{arith}
 use lib.Ieee.{Float}
 use Rattle.number.proofs.Binary64.{Binary64}
+use Rattle.refusal.specs.declared.Refusal.{Refusal}
+use Rattle.refusal.specs.declared.Refusal.the-variants as refusal
 use Rattle.refusal.proofs.Laws.{number-positive}
 use Rattle.geometry.specs.declared.tolerance.Tolerance.{Tolerance}
 use Rattle.patch.specs.declared.patch.Patch.{Patch}
 use Rattle.patch.specs.declared.patch.Parameters.{Parameters}
+use Rattle.meeting.proofs.Rounds.{meet-unmet}
 use Rattle.refusal.specs.declared.Verdict.{Verdict}
 use Rattle.refusal.specs.declared.Verdict.the-variants.{Passed, Refused}
 use Rattle.certificate.specs.Passes.{Passes}
@@ -17,14 +20,16 @@ use Rattle.certificate.specs.Check.{checkOf}
 use Rattle.certificate.proofs.Exact.{passes-finite, passes-exact}
 use Rattle.certificate.proofs.Passed.{checked-passes, passes-checked}
 use Rattle.groups.specs.declared.traced.Traced.{Traced}
+use Rattle.groups.specs.declared.traced.Traced.the-variants as traced
 use Rattle.groups.specs.Traced.{countOf, startOf, closingOf}
 use Rattle.groups.specs.Traced as trace
 use Rattle.walk.specs.Trace.{traceOf}
+use Rattle.walk.proofs.Unmet.{Seeds, unmet-answer, answer-unmet}
 use Rattle.boxes.specs.declared.boxtree.Aabb.{Aabb}
 use Rattle.boxes.specs.declared.crossing.Crossed.{Crossed}
 use Rattle.boxes.specs.Crossing.{crossedOf, crossingOf}
 use Rattle.boxes.proofs.Counted.{crossed-when}
-use Rattle.passing.specs.Promises.{ExactGaps, TracePromise, CheckPromise, CrossingPromise}
+use Rattle.passing.specs.Promises.{ExactGaps, GuessUnmet, TracePromise, CheckPromise, CrossingPromise}
 use Rattle.passing.proofs.Passing.{trace-passes}
 
 -- no refusal has the number 0
@@ -44,8 +49,16 @@ trace-promised a b tol guess cap before {after} {r} answer buffer =
       passes = passes;
       checked = λ z. ap refusalOf (passes-checked a b tol after (countOf r) (startOf r) (closingOf r) (passes z));
       exact = λ z. exact-gaps (passes z);
+      unmet = λ i e. guess-unmet (refusal.NoMeeting i) (record { behind = omega arith; not-ten = λ z. omega (arith, z); not-eleven = λ z. omega (arith, z) }) e;
+      singular = λ i e. guess-unmet (refusal.Singular i) (record { behind = omega arith; not-ten = λ z. omega (arith, z); not-eleven = λ z. omega (arith, z) }) e;
+      handed-on = λ q g. answer ∙ unmet-answer a b tol guess cap before q (g .fit) (g .meeting);
     }
   where
+    guess-unmet : (q : Refusal) → Seeds q → r ≡ traced.Refused q → GuessUnmet a b tol guess cap before q
+    guess-unmet q s e =
+        let h = answer-unmet a b tol guess cap before q s (sym answer ∙ e) in
+        record { fit = h .0; meeting = h .1; round = meet-unmet a b guess tol q (h .1) }
+
     passes : trace.refusalOf r ≡ 0 → Passes a b tol after (countOf r) (startOf r) (closingOf r)
     passes = rw (answer, buffer) (trace-passes a b tol guess cap before)
 

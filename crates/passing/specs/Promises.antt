@@ -16,17 +16,21 @@ use Rattle.patch.specs.declared.patch.Patch.{Patch}
 use Rattle.patch.specs.declared.patch.Parameters.{Parameters}
 use Rattle.patch.specs.declared.point.Located.{Located}
 use Rattle.patch.specs.Located.{pointA, pointB, locatedOf}
+use Rattle.refusal.specs.declared.Refusal.{Refusal}
 use Rattle.refusal.specs.declared.Refusal.the-variants as refusal
 use Rattle.refusal.specs.Refusal.{numberOf}
 use Rattle.refusal.specs.declared.Verdict.{Verdict}
+use Rattle.refusal.specs.declared.Verdict.the-variants.{Passed}
+use Rattle.meeting.specs.declared.newton.Met.the-variants as met
+use Rattle.meeting.specs.Newton.{meetOf, Unmet}
 use Rattle.certificate.specs.Passes.{parametersAt, Passes}
 use Rattle.certificate.specs.Check.{checkOf}
 use Rattle.refusal.specs.Verdict as verdict
 use Rattle.groups.specs.declared.traced.Traced.{Traced}
-use Rattle.groups.specs.declared.traced.Traced.the-variants.{Line}
+use Rattle.groups.specs.declared.traced.Traced.the-variants.{Line, Refused}
 use Rattle.groups.specs.Traced.{outcome, countOf, startOf, closingOf}
 use Rattle.groups.specs.Traced as trace
-use Rattle.walk.specs.Trace.{traceOf}
+use Rattle.walk.specs.Trace.{callFitness, traceOf}
 use Rattle.boxes.specs.declared.boxtree.Aabb.{Aabb}
 use Rattle.boxes.specs.declared.crossing.Crossed.{Crossed}
 use Rattle.boxes.specs.Counts.{Counts, Fit}
@@ -62,6 +66,18 @@ pub record JobPasses (bytes : List ℕ) (l : List Float) (count start closing : 
   pub passes : Passes (job .a) (job .b) (job .tol) l count start closing
   pub exact : ExactGaps (job .a) (job .b) (job .tol) l count
 
+-- (02, A2) `meet` of the guess refuses with q, where nothing refuses before 9: q is 9, in a round of at most 32, or 21, in one of at most 31.
+pub record GuessUnmet (a b : Patch) (tol : Tolerance) (guess : Parameters) (cap : ℕ) (before : List Float) (q : Refusal) : Type 0 where
+  pub fit : callFitness a b tol guess cap before ≡ Passed
+  pub meeting : meetOf a b guess tol ≡ met.Refused q
+  pub round : Unmet q
+
+-- The bytes are a job file, and `meet` of its guess refuses so.
+pub record JobUnmet (bytes : List ℕ) (before : List Float) (q : Refusal) : Type 0 where
+  pub job : Job
+  pub read : jobOf bytes ≡ Whole job
+  pub guess : GuessUnmet (job .a) (job .b) (job .tol) (job .guess) (job .cap) before q
+
 -- ---- the contracts of the public calls
 
 -- the point of a surface, or the refusal, is what 01's rules give
@@ -77,6 +93,10 @@ pub record TracePromise (a b : Patch) (tol : Tolerance) (guess : Parameters) (ca
   pub passes : trace.refusalOf r ≡ 0 → Passes a b tol after (countOf r) (startOf r) (closingOf r)
   pub checked : trace.refusalOf r ≡ 0 → verdict.refusalOf (checkOf a b tol after (countOf r) (startOf r) (closingOf r)) ≡ 0
   pub exact : trace.refusalOf r ≡ 0 → ExactGaps a b tol after (countOf r)
+  -- (02, A2) 9 or 21 is the answer exactly when `meet` of the guess answers so, with its round
+  pub unmet : (i : ℕ) → r ≡ Refused (refusal.NoMeeting i) → GuessUnmet a b tol guess cap before (refusal.NoMeeting i)
+  pub singular : (i : ℕ) → r ≡ Refused (refusal.Singular i) → GuessUnmet a b tol guess cap before (refusal.Singular i)
+  pub handed-on : (q : Refusal) → GuessUnmet a b tol guess cap before q → r ≡ Refused q
 
 -- the check of the first `count` points of a list
 pub record CheckPromise (a b : Patch) (tol : Tolerance) (l : List Float) (count start closing : ℕ) (r : Verdict) : Type 0 where

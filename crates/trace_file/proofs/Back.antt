@@ -3,6 +3,7 @@ use mathlib.Core.Path.{_≡_, refl, sym, ap, _∙_}
 use mathlib.Core.List.{List, _++_, append-nil}
 use Prim.Native.Nat.{ℕ, _+_, _*_, _≤_}
 use native.Mathlib.Omega.{arith}
+use lib.Dec.{leb}
 use lib.Ieee.{Float}
 use lib.ListN.{length, take, drop, length-drop, take-append-drop}
 use lib.Seq.{length-take-le, take-all}
@@ -10,17 +11,19 @@ use Rattle.loops.specs.Over.{written}
 use Rattle.loops.proofs.Over.{take-written, length-written}
 use Rattle.number.proofs.Binary64.{Binary64, take-fits}
 use Rattle.wire.specs.Wire.{AllBytes}
+use Rattle.refusal.specs.declared.Refusal.the-variants as refusal
 use Rattle.refusal.specs.declared.Verdict.{Verdict}
 use Rattle.refusal.specs.declared.Verdict.the-variants as verdict
 use Rattle.refusal.proofs.Laws.{number-positive}
+use Rattle.refusal.proofs.Order.{first-each, asked-each, NoRound}
 use Rattle.groups.specs.declared.traced.Traced.the-variants.{Line}
-use Rattle.groups.specs.Traced.{Outcome, outcome, refusalOf, countOf, startOf, closingOf}
+use Rattle.groups.specs.Traced.{Outcome, outcome, refusalOf, countOf, startOf, roundOf, closingOf}
 use Rattle.trace_file.specs.declared.write.Written.the-variants.{Bytes}
 use Rattle.groups.specs.Groups.{mostPoints}
 use Rattle.trace_file.specs.Layout.{numbersPlace, greatestCode, mostWidth}
-use Rattle.trace_file.specs.File.{fileOf, countIn, startIn, codeIn, numbersFrom, numbersIn, headerOf, numbersBytes}
+use Rattle.trace_file.specs.File.{fileOf, countIn, startIn, codeIn, numbersFrom, numbersIn, headerOf, numbersBytes, headerFits, allFinite}
 use Rattle.trace_file.specs.Write.{filed, bytesOf, writeFitness, afterWriting, writeOf}
-use Rattle.trace_file.specs.Read.{afterReading, readFitness, readOf}
+use Rattle.trace_file.specs.Read.{afterReading, readTests, readFitness, readOf}
 use Rattle.trace_file.proofs.Numbers.{product-small, from-length, numbers-back, numbers-again}
 use Rattle.trace_file.proofs.Header.{version-back, count-back, start-back, code-back, length-back, behind-header, file-length, header-again}
 use Rattle.trace_file.proofs.Fitness.{claim-fits, WriteFit, write-fit, fit-write, ReadFit, read-fit, fit-read}
@@ -129,16 +132,28 @@ read-is : (version w : ℕ) (s : List ℕ) (t : List Float) → ReadFit version 
 unfolding readOf
 read-is version w s t f = rw (fit-read version w s (length t) f)
 
--- what is read has the count, start and code that 20 lets through, and 0 for each where it refuses
+read-roundless : (version w : ℕ) (s : List ℕ) (room : ℕ) → NoRound (readFitness version w s room)
+unfolding readFitness
+read-roundless version w s room =
+    first-each NoRound (readTests version w s room) (
+      asked-each NoRound (headerFits version w s) refusal.TraceFile tt refl,
+      λ h. (
+        asked-each NoRound (allFinite (numbersIn w s)) refusal.TraceFile tt refl,
+        λ f.
+            (asked-each NoRound (leb (w * countIn s) room) refusal.Lent tt refl, λ l. tt),
+      ),
+    )
+
+-- what is read has the count, start and code that 20 lets through, and 0 for each where it refuses; it has no round
 pub read-claim : (version w : ℕ) (s : List ℕ) (t : List Float)
-    → (let r = readOf version w s t .answer in (countOf r ≤ mostPoints) × (startOf r ≤ mostPoints) × (closingOf r ≤ greatestCode))
+    → (let r = readOf version w s t .answer in (countOf r ≤ mostPoints) × (startOf r ≤ mostPoints) × (closingOf r ≤ greatestCode) × (roundOf r ≡ 0))
 unfolding readOf
-read-claim version w s t = go (readFitness version w s (length t)) refl
+read-claim version w s t = go (readFitness version w s (length t)) refl (read-roundless version w s (length t))
   where
-    go : (v : Verdict) → readFitness version w s (length t) ≡ v
-        → (let r = afterReading w s t v .answer in (countOf r ≤ mostPoints) × (startOf r ≤ mostPoints) × (closingOf r ≤ greatestCode))
-    go verdict.Passed e = let k = claim-fits (read-fit version w s (length t) e .header .claim) in (k .1, omega (arith, k .1, k .2), k .3)
-    go (verdict.Refused r) e = (omega arith, omega arith, omega arith)
+    go : (v : Verdict) → readFitness version w s (length t) ≡ v → NoRound v
+        → (let r = afterReading w s t v .answer in (countOf r ≤ mostPoints) × (startOf r ≤ mostPoints) × (closingOf r ≤ greatestCode) × (roundOf r ≡ 0))
+    go verdict.Passed e n = let k = claim-fits (read-fit version w s (length t) e .header .claim) in (k .1, omega (arith, k .1, k .2), k .3, refl)
+    go (verdict.Refused r) e n = (omega arith, omega arith, omega arith, n)
 
 -- what is written has few bytes
 pub write-small : (version w : ℕ) (l : List Float) (count start code : ℕ) (t : List ℕ) → w ≤ mostWidth → bytesOf (writeOf version w l count start code t .answer) ≤ 8388618

@@ -5,3 +5,4 @@ pub mod Lines
 pub mod Lists
 pub mod Reversal
 pub mod Rows
+pub mod Unmet

@@ -23,7 +23,7 @@ traced-word-requires : tie.Need-traced-word-requires
 traced-word-requires c κs = bounded _ (c .before .before .trace .ensures)
 
 returns : tie.Need-returns
-returns c = traced-unread _ (sym (c .before .before .before .before .read .ensures) ∙ c .before .before .read2 .given .1) (c .number .ensures)
+returns c = traced-unread _ (sym (c .before .before .before .before .read .ensures) ∙ c .before .before .read2 .given .1) _ (c .number .ensures)
 
 same-length : tie.Need-same-length
 same-length c = search needs

@@ -10,7 +10,7 @@ land-requires : tie.Need-land-requires
 land-requires c κs = search needs
 
 put-met-requires : tie.Need-put-met-requires
-put-met-requires c κs = search needs
+put-met-requires c κs = (c .before .before .before .before .before .pre .1, c .before .land .ensures .unmet)
 
 same-length : tie.Need-same-length
 same-length c = search needs

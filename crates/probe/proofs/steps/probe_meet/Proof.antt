@@ -7,7 +7,7 @@ meet-requires : tie.Need-meet-requires
 meet-requires c κs = search needs
 
 put-met-requires : tie.Need-put-met-requires
-put-met-requires c κs = search needs
+put-met-requires c κs = (c .before .before .before .pre, c .before .meet .ensures .unmet)
 
 same-length : tie.Need-same-length
 same-length c = search needs

@@ -13,7 +13,7 @@ meet-in-plane-requires : tie.Need-meet-in-plane-requires
 meet-in-plane-requires c κs = search needs
 
 put-met-requires : tie.Need-put-met-requires
-put-met-requires c κs = search needs
+put-met-requires c κs = (c .before .before .before .before .before .before .pre .1, c .before .meet-in-plane .ensures .unmet)
 
 same-length : tie.Need-same-length
 same-length c = search needs

@@ -1,6 +1,20 @@
+-- The number is a byte and the round at most 32, so the word has room for both.
+use Prim.Native.Nat.{_≤_}
+use native.Mathlib.Omega.{arith}
 use borrow.Author.Needs.{needs}
+use Rattle.refusal.proofs.Laws.{number-small}
+use Rattle.meeting.specs.Newton.{mostRounds}
+use Rattle.meeting.proofs.Rounds.{unmet-round}
 use Rattle.probe.proofs.steps.put_met.Statement.{statement}
 use Rattle.probe.proofs.steps.put_met.Tie as tie
+
+number-fits : (c : tie.After-number) → c .number .result ≤ 255
+number-fits c = rw (c .number .ensures) (number-small (c .before .before .met2 .given .0 .0))
+
+round-fits : (c : tie.After-round) → c .round .result ≤ mostRounds
+round-fits c =
+    let m = c .before .before .before in
+    rw (c .round .ensures) (unmet-round _ (m .before .before .before .pre .1 _ (m .met2 .given .1)))
 
 enum-known-met : tie.Need-enum-known-met
 enum-known-met c = search needs
@@ -8,8 +22,23 @@ enum-known-met c = search needs
 put-parameters-requires : tie.Need-put-parameters-requires
 put-parameters-requires c κs = search needs
 
-enum-told : tie.Need-enum-told
-enum-told c = search needs
+enum-known-met-2 : tie.Need-enum-known-met-2
+enum-known-met-2 c = search needs
+
+number-requires : tie.Need-number-requires
+number-requires c κs = search needs
+
+mul-result : tie.Need-mul-result
+mul-result c = omega (arith, number-fits c)
+
+round-requires : tie.Need-round-requires
+round-requires c κs = search needs
+
+mul-result-2 : tie.Need-mul-result-2
+mul-result-2 c = omega (arith, round-fits c)
+
+add-result : tie.Need-add-result
+add-result c = omega (arith, number-fits (c .before), round-fits c)
 
 same-length : tie.Need-same-length
 same-length c = search needs
@@ -20,7 +49,10 @@ returns c =
     rw (p .before .before .before .met .given .1, ← p .put-parameters .ensures)
 
 returns-2 : tie.Need-returns-2
-returns-2 c = rw (c .enum-told .given .1)
+returns-2 c = rw (c .before .before .before .met2 .given .1, ← c .before .number .ensures, ← c .round .ensures)
 
 pub put-met-spec : {M : Type 1} → statement M
-put-met-spec = tie.close (tie.spec enum-known-met put-parameters-requires enum-told same-length returns returns-2)
+put-met-spec =
+    tie.close
+    (tie.spec enum-known-met put-parameters-requires enum-known-met-2 number-requires mul-result round-requires mul-result-2 add-result
+    same-length returns returns-2)
