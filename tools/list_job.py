@@ -2,7 +2,7 @@
 """list_job.py LIST LINES: the inputs of the job program that the gate replays (`tools/lists.py put job LIST`), and the lines that
 crates/replay/stdout must have for them.
 
-Inputs are document 01's examples 10 to 12 and the cases of refusal 19, with numbers that are NaN patterns among them. A record is a
+Inputs are document 01's examples 9 to 12, the last row 9 as request A2 has it, and the cases of refusal 19, with numbers that are NaN patterns among them. A record is a
 2-byte length and 400 bytes, zeros behind the input. The lines follow from 01 alone, but for the two marked "by the Rust".
 """
 import struct
@@ -24,6 +24,12 @@ def ten(**lines):
     return job.job(text)
 
 
+def nine(b):
+    """Example 9's file with these lines for B."""
+    square = "u -1 1\nv -1 1\n"
+    return job.job(f"surface A plane\n{square}surface B plane\n{b}{square}confusion 1e-7\nangular 1e-12\nguess 0 0 0 0\ncap 2\n")
+
+
 def at(data, place, new):
     """The file with some bytes replaced."""
     return data[:place] + new + data[place + len(new):]
@@ -42,6 +48,10 @@ def cases():
     whole = ten()
     yield whole, "trace 5 2 0"
     yield ten(u="0.1 0.2"), "refused 11"
+    # 9: the same plane; one higher, where the first solve gives up; upright and out of reach. The line has the number alone, no round.
+    yield nine(""), "refused 10"
+    yield nine("origin 0 0 1\n"), "refused 21"
+    yield nine("origin 3 0 0\nx 0 1 0\ny 0 0 1\nz 1 0 0\n"), "refused 9"
     # 12: the ends of confusion and their outer neighbours
     least = struct.unpack(">Q", struct.pack(">d", 2.0 ** -40))[0]
     yield ten(confusion="2^-40"), THE_RUST["least"]

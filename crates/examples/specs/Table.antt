@@ -30,7 +30,7 @@ use Rattle.solve.specs.Cramer.{solve2Of}
 use Rattle.solve.specs.Solve.{solve3Of}
 use Rattle.solve.specs.declared.cramer.Solved2.the-variants as solved2
 use Rattle.solve.specs.declared.Solved3.the-variants as solved3
-use Rattle.groups.specs.Traced.{Outcome, refusalOf}
+use Rattle.groups.specs.Traced.{Outcome, refusalOf, roundOf}
 use Rattle.walk.specs.Trace.{traceOf}
 
 -- ---- the other numbers of the rows
@@ -173,8 +173,10 @@ pub record Table : Type 0 where
       × ((p : ℕ → ℕ → Float) (t : Float)
       → crossingOf (confusion20 t) (fourPoints p) 4 (boxAt (bits 0x3fc3_3333_3333_3333) (bits 0x3f84_7ae1_47ae_147b) positiveZero) ≡ crossed.No)
   -- "A and B the same unit-frame plane, windows -1 to 1, no marks, default tolerance, cap 2, 35 numbers lent, guess all 0: 10. B's origin
-  -- moved to z = 1: 9." (and the 35 numbers are positive zero afterwards)
+  -- moved to z = 1": 02, A2: "the new number, in round 0" (and the 35 numbers are positive zero afterwards)
   pub row9 :
       ((p : ℕ → Float) → (refusalOf (nineOf zeroVector (lent 35 p) .answer) ≡ 10) × (nineOf zeroVector (lent 35 p) .buffer ≡ replicate 35 positiveZero))
       × ((p : ℕ → Float)
-      → (refusalOf (nineOf (vectorOf positiveZero positiveZero one) (lent 35 p) .answer) ≡ 9) × (nineOf (vectorOf positiveZero positiveZero one) (lent 35 p) .buffer ≡ replicate 35 positiveZero))
+      → (refusalOf (nineOf (vectorOf positiveZero positiveZero one) (lent 35 p) .answer) ≡ 21)
+      × (roundOf (nineOf (vectorOf positiveZero positiveZero one) (lent 35 p) .answer) ≡ 0)
+      × (nineOf (vectorOf positiveZero positiveZero one) (lent 35 p) .buffer ≡ replicate 35 positiveZero))

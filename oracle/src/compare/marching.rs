@@ -1,7 +1,7 @@
 //! The steps of the walk: generated pairs of patches, the oracle's answers, the comparison and the fixed list.
 
 use super::word;
-use crate::intersect::marching::{Windows, land, leaving, meet, predict, tangent};
+use crate::intersect::marching::{Mark, Windows, land, leaving, meet, predict, tangent};
 use crate::probe::{self, Step};
 use crate::random::Random;
 use crate::surfaces::{ParametricSurface, Patch};
@@ -470,6 +470,7 @@ impl Timed {
     pub(crate) fn oracle(&self, output: &mut [f64; 4]) -> u64 {
         let c = &self.c;
         let [p, q, s, t, u, v] = c.rest;
+        let mark = &mut Mark::default();
         let mut put = |m: Option<[f64; 4]>| {
             m.map_or(0, |y| {
                 *output = y;
@@ -483,10 +484,18 @@ impl Timed {
                 output[0] = bound;
                 k as u64
             }),
-            Step::Meet => put(meet(&c.a, &c.b, c.x, None, c.tol, Windows::Asked)),
+            Step::Meet => put(meet(&c.a, &c.b, c.x, None, c.tol, Windows::Asked, mark)),
             Step::MeetInPlane => {
                 let plane = (Point3D::new(p, q, s), Vector3D::new(t, u, v));
-                put(meet(&c.a, &c.b, c.x, Some(plane), c.tol, Windows::Asked))
+                put(meet(
+                    &c.a,
+                    &c.b,
+                    c.x,
+                    Some(plane),
+                    c.tol,
+                    Windows::Asked,
+                    mark,
+                ))
             }
             Step::Land(pin) => put(land(
                 &c.a,
@@ -496,6 +505,7 @@ impl Timed {
                 p,
                 c.tol,
                 Windows::Asked,
+                mark,
             )),
         }
     }
@@ -505,10 +515,12 @@ impl Timed {
     }
 }
 
-/// The oracle's answer: its word and the numbers written.
+/// The oracle's answer: its word and the numbers written. A failed meeting's word is 2^8 times its number and 2^16 times its round.
 fn answer(c: &Call, windows: Windows) -> (u64, Vec<f64>) {
     let [p, q, s, t, u, v] = c.rest;
-    let met = |m: Option<[f64; 4]>| m.map_or((0, vec![]), |y| (1, y.to_vec()));
+    let mut mark = Mark::default();
+    let met =
+        |m: Option<[f64; 4]>, mark: Mark| m.map_or((mark.word() << 8, vec![]), |y| (1, y.to_vec()));
     match c.step {
         Step::Tangent => {
             tangent(&c.a, &c.b, c.x, c.tol).map_or((0, vec![]), |d| (1, vec![d.x, d.y, d.z]))
@@ -519,12 +531,20 @@ fn answer(c: &Call, windows: Windows) -> (u64, Vec<f64>) {
         }
         Step::Leaving => leaving(&c.a, &c.b, c.x, [p, q, s, t])
             .map_or((4, vec![]), |(k, bound)| (k as u64, vec![bound])),
-        Step::Meet => met(meet(&c.a, &c.b, c.x, None, c.tol, windows)),
+        Step::Meet => {
+            let y = meet(&c.a, &c.b, c.x, None, c.tol, windows, &mut mark);
+            met(y, mark)
+        }
         Step::MeetInPlane => {
             let plane = (Point3D::new(p, q, s), Vector3D::new(t, u, v));
-            met(meet(&c.a, &c.b, c.x, Some(plane), c.tol, windows))
+            let y = meet(&c.a, &c.b, c.x, Some(plane), c.tol, windows, &mut mark);
+            met(y, mark)
         }
-        Step::Land(pin) => met(land(&c.a, &c.b, c.x, pin as usize, p, c.tol, windows)),
+        Step::Land(pin) => {
+            let pin = pin as usize;
+            let y = land(&c.a, &c.b, c.x, pin, p, c.tol, windows, &mut mark);
+            met(y, mark)
+        }
     }
 }
 
@@ -559,13 +579,67 @@ fn same_words(a: &[f64], b: &[f64]) -> bool {
     a.len() == b.len() && a.iter().zip(b).all(|(x, y)| word(*x) == word(*y))
 }
 
-/// Whether the proved code gives this answer, in bits, and leaves the rest of the output alone.
-fn agrees(c: &Call, expected: &(u64, Vec<f64>)) -> bool {
+/// How failed meetings were told: 9 and 21 by their rounds.
+pub(super) struct Rounds {
+    by_9: [u64; 33],
+    by_21: [u64; 33],
+    pub(super) differ: u64,
+}
+
+impl Default for Rounds {
+    fn default() -> Self {
+        Rounds {
+            by_9: [0; 33],
+            by_21: [0; 33],
+            differ: 0,
+        }
+    }
+}
+
+impl Rounds {
+    /// A word's number + 2^8 times its round, if it is 9 or 21, and whether the proved code tells it otherwise.
+    pub(super) fn count(&mut self, word: u64, otherwise: bool) {
+        let round = (word >> 8 & 0xff) as usize;
+        match word & 0xff {
+            9 => self.by_9[round] += 1,
+            21 => self.by_21[round] += 1,
+            _ => {}
+        }
+        self.differ += u64::from(otherwise);
+    }
+
+    pub(super) fn print(&self, name: &str) {
+        let (nine, solve) = (
+            self.by_9.iter().sum::<u64>(),
+            self.by_21.iter().sum::<u64>(),
+        );
+        let last = |by: &[u64]| by.iter().rposition(|n| *n > 0).unwrap_or(0);
+        println!(
+            "{name}, number and round: {} compared, {} differ ({solve} by 21, {} of them in round 0, the last in round {}; {nine} by 9, {} of them in round 0, {} in round 31, {} with all rounds spent)",
+            nine + solve,
+            self.differ,
+            self.by_21[0],
+            last(&self.by_21),
+            self.by_9[0],
+            self.by_9[31],
+            self.by_9[32],
+        );
+    }
+}
+
+/// The word as the Rust has it: every failed meeting is its one `None`.
+fn as_the_rust(said: u64) -> u64 {
+    if said >= 256 { 0 } else { said }
+}
+
+/// Whether the proved code gives the Rust's answer, in bits, and leaves the rest of the output alone; and whether its whole word is this.
+fn agrees(c: &Call, expected: &(u64, Vec<f64>)) -> (bool, bool) {
     let mut output = [UNTOUCHED; 6];
     let said = probe::step(c.step, &input(c), &mut output);
     let mut right = [UNTOUCHED; 6];
     right[..expected.1.len()].copy_from_slice(&expected.1);
-    said == expected.0 && same_words(&output, &right)
+    let rust = as_the_rust(said) == as_the_rust(expected.0) && same_words(&output, &right);
+    (rust, said == expected.0)
 }
 
 /// Slices too short are answered 9, and nothing is written.
@@ -619,6 +693,7 @@ pub fn compare(seed: u64, count: u64) -> u64 {
         let mut changed = [0u64; KINDS.len()];
         let mut changed_inside = 0u64;
         let mut pairs = [0u64; 25];
+        let mut rounds = Rounds::default();
         let mut wrong = 0;
         for i in 0..count {
             let c = call(&mut r, i, step);
@@ -630,11 +705,14 @@ pub fn compare(seed: u64, count: u64) -> u64 {
             }
             if step >= 3 {
                 let as_it_was = answer(&c, Windows::Ignored);
-                let same = as_it_was.0 == expected.0 && same_words(&as_it_was.1, &expected.1);
+                let same = as_the_rust(as_it_was.0) == as_the_rust(expected.0)
+                    && same_words(&as_it_was.1, &expected.1);
                 changed[c.kind] += u64::from(!same);
                 changed_inside += u64::from(!same && lands_inside(&c));
             }
-            if !agrees(&c, &expected) {
+            let (rust, whole) = agrees(&c, &expected);
+            rounds.count(expected.0 >> 8, rust && !whole);
+            if !rust {
                 wrong += 1;
                 if wrong <= 3 {
                     let (a, b) = (c.a.kind, c.b.kind);
@@ -664,7 +742,10 @@ pub fn compare(seed: u64, count: u64) -> u64 {
                 calls[k], yes[k], changed[k]
             );
         }
-        differ += wrong;
+        if step >= 3 {
+            rounds.print(name);
+        }
+        differ += wrong + rounds.differ;
     }
     differ
 }
@@ -726,7 +807,42 @@ mod tests {
         let last = unit_windows(Step::Leaving, [1.5, 0.5, 0.5, -1.5, 0.0, 0.0]);
         for (c, expected) in [(both, (0, vec![1.0])), (last, (3, vec![0.0]))] {
             assert_eq!(answer(&c, Windows::Asked), expected);
-            assert!(agrees(&c, &expected));
+            assert_eq!(agrees(&c, &expected), (true, true));
+        }
+    }
+
+    /// Number and round of a failed meeting, as `probe` tells them.
+    fn unmet(number: u64, round: u64) -> (u64, Vec<f64>) {
+        ((number << 8) + (round << 16), vec![])
+    }
+
+    #[test]
+    fn why_a_meeting_fails() {
+        let (x, y, z) = (
+            Vector3D::new(1.0, 0.0, 0.0),
+            Vector3D::new(0.0, 1.0, 0.0),
+            Vector3D::new(0.0, 0.0, 1.0),
+        );
+        let mut c = unit_windows(Step::Meet, [0.0; 6]);
+        let origin = Point3D::new(0.0, 0.0, 0.0);
+        c.a.frame = Frame3D { origin, x, y, z };
+        c.a.windows = [(-1.0, 1.0); 2];
+        c.x = [0.0; 4];
+        // The same plane one higher: the first solve gives up.
+        let mut parallel = c.a;
+        parallel.frame.origin = Point3D::new(0.0, 0.0, 1.0);
+        // An upright plane at x = 3: round 0 goes to the window's end, round 1 finds nothing better.
+        let mut upright = c.a;
+        upright.frame = Frame3D {
+            origin: Point3D::new(3.0, 0.0, 0.0),
+            x: y,
+            y: z,
+            z: x,
+        };
+        for (b, expected) in [(parallel, unmet(21, 0)), (upright, unmet(9, 1))] {
+            c.b = b;
+            assert_eq!(answer(&c, Windows::Asked), expected);
+            assert_eq!(agrees(&c, &expected), (true, true));
         }
     }
 
@@ -738,6 +854,6 @@ mod tests {
         let met = (1, vec![1.5, 0.5, 1.5, 0.5]);
         assert_eq!(answer(&c, Windows::Ignored), met);
         assert_ne!(answer(&c, Windows::Asked), met);
-        assert!(agrees(&c, &answer(&c, Windows::Asked)));
+        assert_eq!(agrees(&c, &answer(&c, Windows::Asked)), (true, true));
     }
 }

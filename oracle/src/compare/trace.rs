@@ -1,11 +1,12 @@
 //! The public trace: generated jobs, the oracle's answers and whole buffers, the comparison and the fixed list.
 
 use super::jobs::{Call, KINDS, call};
+use super::marching::Rounds;
 use super::word;
 use crate::intersect::marching::Chords;
 use crate::job::Job;
 use crate::random::Random;
-use crate::trace::{answer, unpacked};
+use crate::trace::{answer, as_the_rust, unpacked};
 use crate::{capi, check};
 use std::io::{self, Write};
 
@@ -23,7 +24,7 @@ fn traced(c: &Call, chords: Chords) -> (u64, Vec<f64>) {
 #[derive(Default, Clone, Copy)]
 struct Ends {
     lines: [u64; 3],
-    refused: [u64; 20],
+    refused: [u64; 22],
     points: u64,
 }
 
@@ -56,6 +57,7 @@ struct Found {
     failing: u64,
     kinds: [Ends; KINDS.len()],
     pairs: [u64; 25],
+    rounds: Rounds,
 }
 
 impl Found {
@@ -79,10 +81,17 @@ impl Found {
     }
 }
 
-/// Whether `ours` answers as the oracle and leaves the same buffer.
-fn agrees(c: &Call, ours: impl Fn(&[u8], &mut [f64]) -> u64, said: u64, buffer: &[f64]) -> bool {
+/// Whether `ours` answers as the Rust, for which 9 and 21 are one, and leaves the same buffer; and whether its whole word is this.
+fn agrees(
+    c: &Call,
+    ours: impl Fn(&[u8], &mut [f64]) -> u64,
+    said: u64,
+    buffer: &[f64],
+) -> (bool, bool) {
     let mut after = c.lent.clone();
-    ours(&c.job, &mut after) == said && same_words(&after, buffer)
+    let word = ours(&c.job, &mut after);
+    let rust = as_the_rust(word) == as_the_rust(said) && same_words(&after, buffer);
+    (rust, word == said)
 }
 
 /// Buffers of every length from 0 to some beyond the need, for jobs that give lines. Returns how many differ.
@@ -100,7 +109,7 @@ fn every_length(seed: u64, ours: impl Fn(&[u8], &mut [f64]) -> u64) -> u64 {
             c.lent = (0..length).map(|i| -0.5 - f64::from(i)).collect();
             let (said, buffer) = traced(&c, Chords::Asked);
             compared += 1;
-            differ += u64::from(!agrees(&c, &ours, said, &buffer));
+            differ += u64::from(agrees(&c, &ours, said, &buffer) != (true, true));
         }
     }
     println!("lengths of the buffer: {compared} compared, {differ} differ");
@@ -122,7 +131,9 @@ fn compare_with(seed: u64, count: u64, ours: impl Fn(&[u8], &mut [f64]) -> u64) 
             let passes = check::answer(&c.job, &buffer, points, start, code) == 0;
             found.failing += u64::from(!passes);
         }
-        if !agrees(&c, &ours, said, &buffer) {
+        let (rust, whole) = agrees(&c, &ours, said, &buffer);
+        found.rounds.count(said, rust && !whole);
+        if !rust {
             found.differ += 1;
             if found.differ <= 3 {
                 let (kind, job) = (KINDS[c.kind], Job::read(&c.job));
@@ -134,7 +145,8 @@ fn compare_with(seed: u64, count: u64, ours: impl Fn(&[u8], &mut [f64]) -> u64) 
         }
     }
     found.print(count);
-    found.differ + found.failing + every_length(seed, ours)
+    found.rounds.print("traces");
+    found.differ + found.failing + found.rounds.differ + every_length(seed, ours)
 }
 
 /// Compares `count` jobs with the proved code.
@@ -149,10 +161,27 @@ pub fn alone(seed: u64, count: u64) -> u64 {
     })
 }
 
-/// How many jobs of the fixed list end in each way: refused by the number, or with the closing code added to 20.
-const WANTED: [usize; 23] = [
-    0, 10, 10, 10, 10, 10, 10, 10, 20, 30, 20, 40, 0, 0, 0, 0, 0, 0, 0, 10, 200, 80, 50,
+/// Ways to end beside the refusals' numbers: 9 with all rounds spent, 21 in a later round than the first, and a line, to which its closing
+/// code is added.
+const SPENT: usize = 22;
+const LATER: usize = 23;
+const LINE: usize = 24;
+
+/// How many jobs of the fixed list end in each way.
+const WANTED: [usize; 27] = [
+    0, 10, 10, 10, 10, 10, 10, 10, 20, 20, 20, 40, 0, 0, 0, 0, 0, 0, 0, 10, 0, 10, 10, 10, 200, 80,
+    50,
 ];
+
+/// How a job ended.
+fn end(said: u64) -> usize {
+    match (unpacked(said), said & 0xff, said >> 8) {
+        (Some((_, _, code)), _, _) => LINE + code as usize,
+        (None, 9, 32) => SPENT,
+        (None, 21, 1..) => LATER,
+        (None, number, _) => number as usize,
+    }
+}
 
 /// The most numbers lent in a job of the fixed list: enough for a cap of 12, and a few behind.
 const MOST: usize = 185;
@@ -188,11 +217,11 @@ pub fn record(seed: u64, count: u64) -> io::Result<()> {
             continue;
         }
         let (said, buffer) = traced(&c, Chords::Asked);
-        let end = unpacked(said).map_or(said & 0xff, |(_, _, code)| 20 + code) as usize;
-        if wanted[end] == 0 {
+        let wanted = &mut wanted[end(said)];
+        if *wanted == 0 {
             continue;
         }
-        wanted[end] -= 1;
+        *wanted -= 1;
         put(&mut out, &[c.job.len() as u64, buffer.len() as u64, said])?;
         out.write_all(&padded(&c.job))?;
         let words: Vec<u64> = buffer.iter().map(|x| word(*x)).collect();
@@ -253,7 +282,7 @@ mod tests {
         };
         assert_eq!(said(&job, 35), 10);
         job.b = plane(1.0, FLAT, [-1.0, 1.0]);
-        assert_eq!(said(&job, 35), 9);
+        assert_eq!(said(&job, 35), 21);
     }
 
     #[test]

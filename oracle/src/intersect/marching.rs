@@ -1,7 +1,8 @@
 // From geomcore at a20e012915, `src/intersect/marching.rs`, licensed MIT OR Apache-2.0: what one crossing and one trace need.
 // `trace`, `tangent`, `predict`, `meet`, `param_bounds`, `within_bounds`, `leaving` and `land` are carried over unchanged, but for what the
-// scope changes: the window test in `meet` and `land`; in `trace` the chord test, the job's cap, the parameters kept beside each point,
-// what is answered, and the arc tangent. Each changed line says so. Square roots are the hardware's, which round as ours do.
+// scope changes: the window test in `meet` and `land`, and where their loops stand (A2); in `trace` the chord test, the job's cap, the
+// parameters kept beside each point, what is answered, and the arc tangent. Each changed line says so. Square roots are the hardware's,
+// which round as ours do.
 // `Traced::of` holds the lines of `Traced::follow` that make a trace's boxes, for a trace that is handed in; `crosses`,
 // `segment_meets_box` and the constants are carried over unchanged.
 
@@ -123,6 +124,31 @@ impl Chords {
     }
 }
 
+/// Added by request A2: where the loop of `meet` or `land` stands, so that after a `None` it says why and in which round it gave up. The
+/// Rust's own ways out are as they were.
+#[derive(Clone, Copy, Default)]
+pub(crate) struct Mark {
+    number: u64,
+    round: u64,
+}
+
+impl Mark {
+    /// A solve that gives up here is 21.
+    fn solving(&mut self, round: u64) {
+        (self.number, self.round) = (21, round);
+    }
+
+    /// A loop that ends here, and then fails the last test, is 9.
+    fn ending(&mut self, round: u64) {
+        (self.number, self.round) = (9, round);
+    }
+
+    /// The refusal as the low bytes of the trace's word: number + 2^8 round.
+    pub(crate) fn word(self) -> u64 {
+        self.number + (self.round << 8)
+    }
+}
+
 /// What the scope adds to the answer: parameters beside each point, the start's index and the closing code.
 pub(crate) struct Line {
     pub(crate) points: Vec<([f64; 4], Point3D)>,
@@ -168,6 +194,7 @@ where
     let mut halves: [Vec<([f64; 4], Point3D)>; 2] = [Vec::new(), Vec::new()]; // changed: parameters
     let mut closed = false;
     let mut closing = 0; // changed: added
+    let mut unread = Mark::default(); // changed: added
     for ((half, dir), code) in halves.iter_mut().zip([1.0, -1.0]).zip([1, 2]) {
         // changed: code
         if closed {
@@ -189,8 +216,9 @@ where
                 let guess = predict(a, b, x, t * h);
                 if let Some((pin, bound)) = leaving(a, b, x, guess) {
                     // The step leaves a parameter domain: end on its edge.
-                    if let Some(y) = land(a, b, guess, pin, bound, tol, Windows::Asked) {
-                        // changed: the window test
+                    if let Some(y) = land(a, b, guess, pin, bound, tol, Windows::Asked, &mut unread)
+                    {
+                        // changed: the window test, the mark
                         let q = a.eval_point(y[0], y[1]);
                         if (q - p).dot(t) >= 0.0
                             && q.distance(p) <= 2.0 * h
@@ -201,7 +229,7 @@ where
                             break;
                         }
                     }
-                } else if let Some(y) = meet(a, b, guess, Some((target, t)), tol, Windows::Asked) // changed: the window test
+                } else if let Some(y) = meet(a, b, guess, Some((target, t)), tol, Windows::Asked, &mut unread) // changed: the window test, the mark
                     && let Some(ty) = tangent(a, b, y, tol).map(|ty| ty * dir)
                 {
                     let q = a.eval_point(y[0], y[1]);
@@ -320,6 +348,7 @@ pub(crate) fn meet<A, B>(
     plane: Option<(Point3D, Vector3D)>,
     tol: Tolerance,
     windows: Windows, // changed: added
+    mark: &mut Mark,  // changed: added
 ) -> Option<[f64; 4]>
 where
     A: ParametricSurface,
@@ -334,7 +363,8 @@ where
     };
     let mut x = bounded(x);
     let (mut f, mut r, mut merit) = residual(x);
-    for _ in 0..32 {
+    for round in 0..32 {
+        mark.solving(round); // changed: added
         let met = f.magnitude() <= 0.1 * tol.confusion && r.abs() <= 0.1 * tol.confusion;
         if met && windows.hold(a, b, x)
         // changed: the window test
@@ -363,6 +393,7 @@ where
                 cols.map(|c| c.dot(Vector3D::new(y[0], y[1], y[2])))
             }
         };
+        mark.ending(round); // changed: added
         let mut scale = 1.0;
         let mut improved = false;
         for _ in 0..12 {
@@ -378,6 +409,7 @@ where
         if !improved {
             break;
         }
+        mark.ending(round + 1); // changed: added
     }
     let met = f.magnitude() <= tol.confusion && r.abs() <= tol.confusion;
     (met && windows.hold(a, b, x)).then_some(x) // changed: the window test
@@ -446,6 +478,7 @@ pub(crate) fn land<A, B>(
     value: f64,
     tol: Tolerance,
     windows: Windows, // changed: added
+    mark: &mut Mark,  // changed: added
 ) -> Option<[f64; 4]>
 where
     A: ParametricSurface,
@@ -456,7 +489,8 @@ where
     let mut x = within_bounds(a, b, x);
     x[pin] = value;
     let mut f = residual(x);
-    for _ in 0..32 {
+    for round in 0..32 {
+        mark.solving(round); // changed: added
         if f.magnitude() <= 0.1 * tol.confusion && windows.hold(a, b, x)
         // changed: the window test
         {
@@ -467,6 +501,7 @@ where
         let cols = [au, av, -bu, -bv].map(|c| [c.x, c.y, c.z]);
         let m = std::array::from_fn(|r| free.map(|k| cols[k][r]));
         let delta = solve_3x3(m, [-f.x, -f.y, -f.z], 1e-12)?;
+        mark.ending(round); // changed: added
         let mut scale = 1.0;
         let mut improved = false;
         for _ in 0..12 {
@@ -486,6 +521,7 @@ where
         if !improved {
             break;
         }
+        mark.ending(round + 1); // changed: added
     }
     (f.magnitude() <= tol.confusion && windows.hold(a, b, x)).then_some(x) // changed: the window test
 }
