@@ -15,6 +15,11 @@ int main(void) {
     uint64_t word = geomcore_trace(job, bytes, buffer, ROOM);
     unsigned refused = word & 255, code = word >> 8 & 255, start = word >> 16 & 65535;
     uint64_t count = word >> 32;
+    if (refused == 21 || refused == 9) { /* no meeting: the byte above the number is the Newton round */
+        const char *advice = refused == 21 ? "the surfaces are as good as parallel there: take another pair" : "take another guess";
+        printf("refused %u in round %u: %s\n", refused, code, advice);
+        return 0;
+    }
     if (refused) {
         printf("refused %u\n", refused);
         return 0;

@@ -64,19 +64,31 @@ pub const JOB_BYTES: usize = 347;
 pub const SURFACE_A: usize = 5;
 pub const SURFACE_B: usize = 151;
 
-/// Why a call was refused: the number, and the index of the point that 13 to 16 name (0 for the others).
+/// Why a call was refused: the number, the index of the point that 13 to 16 name, and the Newton round, from 0, in which a meeting that
+/// 9 or 21 refuses gave up (0 for the others).
+///
+/// 21: a solve gave up, in a round of 0 to 31. Where that round stood the two surfaces are as good as parallel, or one has no normal there
+/// (a pole, an apex); round 0 stands at the guess. Another pair of surfaces is needed; where they bend, a guess elsewhere may do.
+///
+/// 9: every other failed meeting. 0 to 31: in that round no trial came nearer; 32: all rounds came nearer, none near enough. Another guess
+/// is needed; none will do where the surfaces do not meet inside their windows.
 #[derive(Clone, Copy, Debug, PartialEq, Eq)]
 pub struct Refusal {
     pub number: u8,
     pub index: u32,
+    pub round: u8,
 }
 
 impl Refusal {
-    /// The refusal in the low byte of an answer's word, if there is one.
-    fn of(word: u64, index: u32) -> Option<Refusal> {
+    /// The refusal of an answer's word, if its low byte has one.
+    fn of(word: u64) -> Option<Refusal> {
         match word as u8 {
             0 => None,
-            number => Some(Refusal { number, index }),
+            number => Some(Refusal {
+                number,
+                index: (word >> 32) as u32,
+                round: (word >> 8) as u8,
+            }),
         }
     }
 }
@@ -84,6 +96,7 @@ impl Refusal {
 impl std::fmt::Display for Refusal {
     fn fmt(&self, f: &mut std::fmt::Formatter<'_>) -> std::fmt::Result {
         match self.number {
+            9 | 21 => write!(f, "refused {} in round {}", self.number, self.round),
             13..=16 => write!(f, "refused {} at point {}", self.number, self.index),
             _ => write!(f, "refused {}", self.number),
         }
@@ -130,7 +143,7 @@ pub fn point(surface: &[u8], u: f64, v: f64) -> Result<[f64; 3], Refusal> {
             out.len(),
         )
     });
-    Refusal::of(word, 0).map_or(Ok(out), Err)
+    Refusal::of(word).map_or(Ok(out), Err)
 }
 
 /// How a line closes: open, closed forward or closed backward.
@@ -152,7 +165,7 @@ pub struct Line {
 impl Line {
     /// The line, or the refusal, of a trace's or a reader's word.
     fn of(word: u64) -> Result<Line, Refusal> {
-        if let Some(refusal) = Refusal::of(word, 0) {
+        if let Some(refusal) = Refusal::of(word) {
             return Err(refusal);
         }
         let closing = match word >> 8 & 0xff {
@@ -174,7 +187,8 @@ pub const fn room(cap: u16) -> usize {
     7 * (2 * cap as usize + 1)
 }
 
-/// Walks the line that a job file asks for over the lent numbers. Proved: a line that it gives passes `check` under the same job.
+/// Walks the line that a job file asks for over the lent numbers. Proved: a line that it gives passes `check` under the same job; 9 or 21
+/// with a round is what the meeting of the job's guess gave.
 pub fn trace(job: &[u8], buffer: &mut [f64]) -> Result<Line, Refusal> {
     // SAFETY: each pointer comes with the length of what it was taken from; the callee keeps neither and writes `buffer` alone.
     let word = guarded(|| unsafe {
@@ -199,7 +213,7 @@ pub fn check(job: &[u8], buffer: &[f64], line: Line) -> Result<(), Refusal> {
             line.closing as u64,
         )
     });
-    Refusal::of(word, (word >> 32) as u32).map_or(Ok(()), Err)
+    Refusal::of(word).map_or(Ok(()), Err)
 }
 
 /// Whether the first `count` points of a trace cross a box.
@@ -224,7 +238,7 @@ pub fn crossing(
             corners.len(),
         )
     });
-    Refusal::of(word, 0).map_or(Ok(word & 0x100 != 0), Err)
+    Refusal::of(word).map_or(Ok(word & 0x100 != 0), Err)
 }
 
 /// How many bytes a trace file of version 1 has.
@@ -251,7 +265,7 @@ pub fn write_v1(buffer: &[f64], line: Line, file: &mut [u8]) -> Result<usize, Re
             file.len(),
         )
     });
-    Refusal::of(word, 0).map_or(Ok((word >> 32) as usize), Err)
+    Refusal::of(word).map_or(Ok((word >> 32) as usize), Err)
 }
 
 /// Reads a trace file of version 1, the whole of `file` and not a byte more, into the front of `buffer`. A refusal writes nothing: 20 for

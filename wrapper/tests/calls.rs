@@ -172,6 +172,39 @@ fn file_of_example_10() {
     assert_eq!(geomcore::check(&job, &read, line), Ok(()));
 }
 
+/// Number and round of a guess that leads to no meeting, and the zeros that both leave.
+#[test]
+fn refused_without_a_meeting() {
+    let numbers = geomcore::SURFACE_B + 2;
+    // A's plane again, one higher: the first solve gives up. B moved along the line, out of reach: round 1 finds nothing nearer.
+    let mut parallel = example();
+    parallel.copy_within(
+        geomcore::SURFACE_A..geomcore::SURFACE_B,
+        geomcore::SURFACE_B,
+    );
+    parallel[numbers + 16..numbers + 24].copy_from_slice(&1f64.to_be_bytes());
+    let mut far = example();
+    far[numbers..numbers + 8].copy_from_slice(&3f64.to_be_bytes());
+    for (job, number, round) in [(parallel, 21, 0), (far, 9, 1)] {
+        let mut buffer = vec![0.5; geomcore::room(500) + 1];
+        let refused = geomcore::trace(&job, &mut buffer).unwrap_err();
+        assert_eq!(
+            refused,
+            geomcore::Refusal {
+                number,
+                index: 0,
+                round
+            }
+        );
+        assert_eq!(
+            refused.to_string(),
+            format!("refused {number} in round {round}")
+        );
+        let (zeros, rest) = buffer.split_at(geomcore::room(500));
+        assert!(zeros.iter().all(|x| x.to_bits() == 0) && rest == [0.5]);
+    }
+}
+
 /// What the writer refuses, in its order, with nothing written.
 #[test]
 fn refused_by_the_writer() {

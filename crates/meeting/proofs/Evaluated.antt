@@ -1,8 +1,9 @@
--- The definitions compute: two equal planes meet at once; the solve for planes one apart gives up in round 0.
+-- The definitions compute: two equal planes meet at once; the solve for planes one apart gives up in round 0; for an upright plane out of reach round 0
+-- goes to the window's end, and round 1 finds nothing better.
 use mathlib.Core.Path.{_≡_, refl}
 use mathlib.Core.Bool.{false}
 use lib.Ieee as Ieee
-use lib.Ieee.{Float}
+use lib.Ieee.{Float, nan}
 use Rattle.number.specs.Operators.{bits}
 use Rattle.sqrt.specs.Sqrt.{sqrtOf}
 use Rattle.geometry.specs.Tolerance.{defaultTolerance}
@@ -42,6 +43,19 @@ planeAt z = record {
   v = window;
 }
 
+-- the plane one higher with a direction that is no number
+abbrev pub unnumbered : Patch
+unnumbered = record {
+  surface = Plane (record {
+    origin = pointOf (bits 0) (bits 0) (bits 0x3ff0_0000_0000_0000);
+    x = vectorOf nan (bits 0) (bits 0);
+    y = vectorOf (bits 0) (bits 0x3ff0_0000_0000_0000) (bits 0);
+    z = vectorOf (bits 0) (bits 0) (bits 0x3ff0_0000_0000_0000);
+  });
+  u = window;
+  v = window;
+}
+
 abbrev pub origin : Parameters
 origin = record { u1 = bits 0; v1 = bits 0; u2 = bits 0; v2 = bits 0 }
 
@@ -52,3 +66,25 @@ equal-planes-meet = refl
 pub planes-apart-do-not : meetOf (planeAt (bits 0)) (planeAt (bits 0x3ff0_0000_0000_0000)) origin defaultTolerance ≡ Refused (refusal.Singular 0)
 unfolding computing
 planes-apart-do-not = refl
+
+-- the upright plane of the points (3, u, v)
+abbrev pub upright : Patch
+upright = record {
+  surface = Plane (record {
+    origin = pointOf (bits 0x4008_0000_0000_0000) (bits 0) (bits 0);
+    x = vectorOf (bits 0) (bits 0x3ff0_0000_0000_0000) (bits 0);
+    y = vectorOf (bits 0) (bits 0) (bits 0x3ff0_0000_0000_0000);
+    z = vectorOf (bits 0x3ff0_0000_0000_0000) (bits 0) (bits 0);
+  });
+  u = window;
+  v = window;
+}
+
+pub out-of-reach : meetOf (planeAt (bits 0)) upright origin defaultTolerance ≡ Refused (refusal.NoMeeting 1)
+unfolding computing
+out-of-reach = refl
+
+-- a pivot that is no number is "not at most" the threshold: the solve goes on, and no trial is better
+pub unnumbered-goes-on : meetOf (planeAt (bits 0)) unnumbered origin defaultTolerance ≡ Refused (refusal.NoMeeting 0)
+unfolding computing
+unnumbered-goes-on = refl
