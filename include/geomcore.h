@@ -73,7 +73,8 @@ uint64_t geomcore_point(const uint8_t *surface, size_t bytes, double u, double v
  * The guess leads to no meeting: 9 or 21 in the low byte, and in the byte above it (word >> 8 & 255) the Newton round, from 0, in which
  * the meeting gave up.
  *   21: a solve gave up, in a round of 0 to 31. Where that round stood the two surfaces are as good as parallel, or one has no normal
- *       there (a pole, an apex). Round 0 stands at the guess. Another pair of surfaces is needed; where they bend, a guess elsewhere may do.
+ *       there (a pole, an apex), or a radius near the limit of 2^20 makes them look so. Round 0 stands at the guess. Another pair of
+ *       surfaces is needed; where they bend, a guess elsewhere may do.
  *   9:  every other failed meeting. 0 to 31: in that round no trial came nearer; 32: all rounds came nearer, none near enough. Another
  *       guess is needed; none will do where the surfaces do not meet inside their windows.
  * Proved: where the low byte is 0 the line in the buffer passes the check under the job, with that count, start and code; where it is 9 or
@@ -106,7 +107,7 @@ uint64_t geomcore_crossing(double confusion, double angular, const double *buffe
 uint64_t geomcore_write_v1(const double *buffer, size_t lent, uint64_t count, uint64_t start, uint64_t code, uint8_t *file,
                            size_t room);
 
-/* Reads a trace file of exactly so many bytes into the front of the buffer: the word of a line of geomcore_trace, or the refusal's number. 20 for
+/* Reads a trace file of exactly so many bytes into the front of the buffer: the word of geomcore_trace, or the refusal's number. 20 for
  * bytes that are no such file: fewer than 10, another version, a count, start, code or number that the writer refuses by 20, a length that
  * does not agree with the count and with the bytes handed over, so that a byte too many is refused. Then 8 for fewer than 7 count numbers
  * lent; 28007 are enough for any file. A refusal writes nothing, and nothing beyond the trace is written. It judges no geometry.

@@ -57,7 +57,9 @@ written-word {after = after} {r = r} p e =
 module _ {file : List ℕ} {before after : List Float} {r : Traced} (p : ReadPromise version1 width1 file before after r) where
   -- what the reader answers has room in a word
   pub read-bounded : Bounded r
-  read-bounded = rw (p .answer) (let h = read-claim version1 width1 file before in record { count = omega (arith, h .0); start = omega (arith, h .1); closing = omega (arith, h .2); round = omega (arith, h .3) })
+  read-bounded =
+      let h = read-claim version1 width1 file before in
+      rw (p .answer) (record { count = omega (arith, h .0); start = omega (arith, h .1); closing = omega (arith, h .2); round = omega (arith, h .3) })
 
   pub read-word : {w : ℕ} → w ≡ tracedWord r → ReadWord file before after w
   read-word {w} e =

@@ -22,9 +22,10 @@ pub fn point(patch: Patch, u: f64, v: f64) -> Located
 //
 // The answer holds the count of points, the start's index and the closing code: 0 open, 1 closed forward, 2 closed backward. Refused, in
 // this order: 1 to 4 for A, the same for B, 5 the tolerance, 6 a guess that is not finite, 7 a cap outside 2 to 2000, 8 fewer than
-// 7 (2 cap + 1) numbers lent, 9 no meeting, 10 no direction there, 11 fewer than 4 points.
+// 7 (2 cap + 1) numbers lent, 9 no meeting or in its place 21 where a solve for it gave up, 10 no direction there, 11 fewer than 4 points.
+// 9 and 21 are what `meet` of the guess answers, with its Newton round, from 0.
 //
-// The buffer: refusals before 9 touch nothing. 9, 10 and 11 leave its first 7 (2 cap + 1) numbers zero. A line stands at its front, zeros
+// The buffer: refusals 1 to 8 touch nothing. 9, 21, 10 and 11 leave its first 7 (2 cap + 1) numbers zero. A line stands at its front, zeros
 // follow up to 7 (2 cap + 1), and nothing beyond changes.
 //
 // Every line that it answers passes the check, and at each of its points the exact squared gap is at most confusion squared times

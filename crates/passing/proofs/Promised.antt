@@ -24,7 +24,7 @@ use Rattle.groups.specs.declared.traced.Traced.the-variants as traced
 use Rattle.groups.specs.Traced.{countOf, startOf, closingOf}
 use Rattle.groups.specs.Traced as trace
 use Rattle.walk.specs.Trace.{traceOf}
-use Rattle.walk.proofs.Unmet.{Seeds, unmet-answer, answer-unmet}
+use Rattle.walk.proofs.Unmet.{Seeds, unmet-seeds, singular-seeds, unmet-answer, answer-unmet}
 use Rattle.boxes.specs.declared.boxtree.Aabb.{Aabb}
 use Rattle.boxes.specs.declared.crossing.Crossed.{Crossed}
 use Rattle.boxes.specs.Crossing.{crossedOf, crossingOf}
@@ -49,8 +49,8 @@ trace-promised a b tol guess cap before {after} {r} answer buffer =
       passes = passes;
       checked = λ z. ap refusalOf (passes-checked a b tol after (countOf r) (startOf r) (closingOf r) (passes z));
       exact = λ z. exact-gaps (passes z);
-      unmet = λ i e. guess-unmet (refusal.NoMeeting i) (record { behind = omega arith; not-ten = λ z. omega (arith, z); not-eleven = λ z. omega (arith, z) }) e;
-      singular = λ i e. guess-unmet (refusal.Singular i) (record { behind = omega arith; not-ten = λ z. omega (arith, z); not-eleven = λ z. omega (arith, z) }) e;
+      unmet = λ i e. guess-unmet (refusal.NoMeeting i) (unmet-seeds i) e;
+      singular = λ i e. guess-unmet (refusal.Singular i) (singular-seeds i) e;
       handed-on = λ q g. answer ∙ unmet-answer a b tol guess cap before q (g .fit) (g .meeting);
     }
   where

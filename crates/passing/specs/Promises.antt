@@ -66,7 +66,7 @@ pub record JobPasses (bytes : List ℕ) (l : List Float) (count start closing : 
   pub passes : Passes (job .a) (job .b) (job .tol) l count start closing
   pub exact : ExactGaps (job .a) (job .b) (job .tol) l count
 
--- (02, A2) `meet` of the guess refuses with q, where nothing refuses before 9: q is 9, in a round of at most 32, or 21, in one of at most 31.
+-- (02, A2) `meet` of the guess refuses with q, where none of 1 to 8 refuses: q is 9, in a round of at most 32, or 21, in one of at most 31.
 pub record GuessUnmet (a b : Patch) (tol : Tolerance) (guess : Parameters) (cap : ℕ) (before : List Float) (q : Refusal) : Type 0 where
   pub fit : callFitness a b tol guess cap before ≡ Passed
   pub meeting : meetOf a b guess tol ≡ met.Refused q

@@ -1,4 +1,4 @@
--- What a call that is not refused before 9 has.
+-- What a call that none of 1 to 8 refuses has.
 use mathlib.Core.Path.{_≡_, sym, subst}
 use mathlib.Core.Bool.{true}
 use mathlib.Core.List.{List, [], _∷_}

@@ -1,5 +1,5 @@
 -- 9 and 21 are the seed's alone: the tests before them have 1 to 8, and what follows a meeting has 10, 11 or a line.
-use mathlib.Core.Path.{_≡_, refl, sym, ap, subst, _∙_}
+use mathlib.Core.Path.{_≡_, refl, sym, ap}
 use mathlib.Core.Bool.{Bool, true, false}
 use mathlib.Core.List.{List, _++_}
 use Prim.Native.Nat.{ℕ, _+_, _*_, _-_, _≤_, _<_}
@@ -12,7 +12,7 @@ use Rattle.number.specs.Helpers.{positiveZero}
 use Rattle.groups.specs.Groups.{width, leastPoints, holdsOf}
 use Rattle.groups.specs.declared.traced.Traced.{Traced}
 use Rattle.groups.specs.declared.traced.Traced.the-variants.{Line, Refused}
-use Rattle.groups.specs.Traced.{Outcome, outcome, refusalOf}
+use Rattle.groups.specs.Traced.{outcome, refusalOf}
 use Rattle.refusal.specs.declared.Refusal.{Refusal}
 use Rattle.refusal.specs.declared.Refusal.the-variants as refusal
 use Rattle.refusal.specs.declared.Verdict.{Verdict}
@@ -48,6 +48,12 @@ pub record Seeds (q : Refusal) : Type 0 where
   pub behind : 8 < numberOf q
   pub not-ten : numberOf q ≡ 10 → ⊥
   pub not-eleven : numberOf q ≡ 11 → ⊥
+
+pub unmet-seeds : (i : ℕ) → Seeds (refusal.NoMeeting i)
+unmet-seeds i = record { behind = omega arith; not-ten = λ z. omega (arith, z); not-eleven = λ z. omega (arith, z) }
+
+pub singular-seeds : (i : ℕ) → Seeds (refusal.Singular i)
+singular-seeds i = record { behind = omega arith; not-ten = λ z. omega (arith, z); not-eleven = λ z. omega (arith, z) }
 
 module _ (a b : Patch) (tol : Tolerance) (n : ℕ) (q : Refusal) (s : Seeds q) where
   settled-other : (m : line.Line) → settled (ownRow a) n m .answer ≡ Refused q → ⊥

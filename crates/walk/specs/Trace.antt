@@ -32,7 +32,7 @@ use Rattle.walk.specs.Lent.{ownRow, rowsOf}
 use Rattle.walk.specs.Line.{lineOf}
 use Rattle.walk.specs.Line as line
 
--- ---- refusals before 9
+-- ---- refusals 1 to 8
 
 -- 6: "a guess or parameter that is not finite"
 unfoldable pub guessFinite : Parameters → Bool
@@ -48,7 +48,7 @@ mostSteps = 2000
 unfoldable pub capFits : ℕ → Bool
 capFits n = leb leastSteps n && leb n mostSteps
 
--- "Trace: 1 to 4 for A, the same for B, then 5 to 11": those before 9. 8: "fewer than 7(2n+1) numbers lent"
+-- "Trace: 1 to 4 for A, the same for B, then 5 to 11": 1 to 8 of them. 8: "fewer than 7(2n+1) numbers lent"
 abbrev pub callTests : Patch → Patch → Tolerance → Parameters → ℕ → List Float → List Verdict
 callTests a b tol guess n l =
     pairFitness a b tol
@@ -105,7 +105,7 @@ walkOf a b tol guess n = afterSeed a b tol n (meetOf a b guess tol)
 
 -- ---- the call: "refusals before 9 touch nothing"; "beyond that nothing changes"
 
--- a refusal before 9, or what the walk answers and leaves
+-- a refusal of 1 to 8, or what the walk answers and leaves
 abbrev pub afterCall : Patch → Patch → Tolerance → Parameters → ℕ → List Float → Verdict → Outcome
 afterCall a b tol guess n l (verdict.Refused r) = outcome (Refused r) l
 afterCall a b tol guess n l verdict.Passed = outcome (walkOf a b tol guess n .answer) (walkOf a b tol guess n .buffer ++ drop (room n) l)

@@ -103,7 +103,7 @@ fn walk_from(
 }
 
 // The line where A and B meet, through the meeting that the guess leads to, in the lent buffer: seven numbers a point, then zeros, in its
-// first 7 (2 cap + 1) numbers; the numbers behind those stay. Refusals before 9 touch nothing.
+// first 7 (2 cap + 1) numbers; the numbers behind those stay. Refusals 1 to 8 touch nothing.
 pub fn trace(
     a: Patch,
     b: Patch,

@@ -95,7 +95,8 @@ returns-2 c =
     let x = d .before .before in
     let m = x .before .before in
     let s = m .before .before in
-    zeros (now (s .args .points)) _ _ refl (s .pre .1) (u .clear2 .ensures) ∙ ten _ _ _ _ _ _ (sym (m .meet .ensures .answer) ∙ x .met .given .1) (sym (d .tangent .ensures) ∙ t .enum-told2 .given .1)
+    zeros (now (s .args .points)) _ _ refl (s .pre .1) (u .clear2 .ensures)
+    ∙ ten _ _ _ _ _ _ (sym (m .meet .ensures .answer) ∙ x .met .given .1) (sym (d .tangent .ensures) ∙ t .enum-told2 .given .1)
 
 eval-point-requires : tie.Need-eval-point-requires
 eval-point-requires c κs = search needs
