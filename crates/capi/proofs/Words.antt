@@ -26,7 +26,8 @@ use Rattle.job.specs.declared.file.JobRead.{JobRead}
 use Rattle.job.specs.declared.file.JobRead.the-variants.{Whole, Refused}
 use Rattle.job.specs.File.{jobOf}
 use Rattle.job.proofs.Unread.{unread}
-use Rattle.meeting.proofs.Rounds.{unmet-round}
+use Rattle.meeting.specs.Newton.{Unmet}
+use Rattle.meeting.proofs.Rounds.{meet-unmet, unmet-round, singular-round}
 use Rattle.passing.specs.Promises.{JobPasses, GuessUnmet, JobUnmet, TracePromise, CheckPromise}
 use Rattle.capi.specs.Answer.{numberIn, closingIn, roundIn, startIn, countIn}
 use Rattle.capi.specs.Check.{checkedWord, checkAnswer, CheckWord}
@@ -45,14 +46,11 @@ module _ {a b : Patch} {tol : Tolerance} {guess : Parameters} {cap : ℕ} {befor
   -- 9 and 21 have a round of at most 32, the others none
   round-fits : (q : Refusal) → TracePromise a b tol guess cap before after (traced.Refused q) → roundOf q < 256
   round-fits q p =
-      ⊎-elim (λ (e : q ≡ variant.NoMeeting (roundOf q)). small (variant.NoMeeting (roundOf q)) (p .unmet (roundOf q) (ap traced.Refused e)))
+      let rounds = p .rounds (roundOf q) in
+      ⊎-elim (λ (e : q ≡ variant.NoMeeting (roundOf q)). let h = rounds .0 (ap traced.Refused e) in omega (arith, h))
       (λ h.
-      ⊎-elim (λ (e : q ≡ variant.Singular (roundOf q)). small (variant.Singular (roundOf q)) (p .singular (roundOf q) (ap traced.Refused e)))
-      (λ (e : Roundless q). omega (arith, e .0)) h)
+      ⊎-elim (λ (e : q ≡ variant.Singular (roundOf q)). let k = rounds .1 (ap traced.Refused e) in omega (arith, k)) (λ (e : Roundless q). omega (arith, e .0)) h)
       (which q)
-    where
-      small : (r : Refusal) → GuessUnmet a b tol guess cap before r → roundOf r < 256
-      small r g = let h = unmet-round r (g .round) in omega (arith, h)
 
   -- what `trace` answers has room in a word
   pub bounded : (r : Traced) → TracePromise a b tol guess cap before after r → Bounded r
@@ -146,12 +144,22 @@ module _ (bytes : List ℕ) (j : Job) (read : jobOf bytes ≡ Whole j) (before a
         answer = rw (read, ← p .answer) e;
         buffer = rw (read) (p .buffer);
         passes = rw e (read-back r p);
-        unmet = rw e (told variant.NoMeeting told-unmet (λ i. omega arith) r p (p .unmet));
-        singular = rw e (told variant.Singular told-singular (λ i. omega arith) r p (p .singular));
+        unmet = rw e unmet;
+        singular = rw e singular;
+        rounds = rw e (λ z. unmet-round _ (why _ (unmet z)), λ z. singular-round _ (why _ (singular z)));
         handed-on = λ q u.
             let same : u .job ≡ j = ap (jobIn j) (sym (u .read)) ∙ ap (jobIn j) read in
             e ∙ ap tracedWord (p .handed-on q (subst (λ (k : Job). GuessUnmet (k .a) (k .b) (k .tol) (k .guess) (k .cap) before q) same (u .guess))) ∙ refused-word q;
       }
+    where
+      unmet : numberIn (tracedWord r) ≡ numberOf (variant.NoMeeting (roundIn (tracedWord r))) → JobUnmet bytes before (variant.NoMeeting (roundIn (tracedWord r)))
+      unmet = told variant.NoMeeting told-unmet (λ i. omega arith) r p (p .unmet)
+
+      singular : numberIn (tracedWord r) ≡ numberOf (variant.Singular (roundIn (tracedWord r))) → JobUnmet bytes before (variant.Singular (roundIn (tracedWord r)))
+      singular = told variant.Singular told-singular (λ i. omega arith) r p (p .singular)
+
+      why : (q : Refusal) → JobUnmet bytes before q → Unmet q
+      why q u = meet-unmet (u .job .a) (u .job .b) (u .job .guess) (u .job .tol) q (u .guess .meeting)
 
 -- a job that can't be read
 module _ (bytes : List ℕ) {r : Refusal} (e : jobOf bytes ≡ Refused r) where
@@ -168,6 +176,7 @@ module _ (bytes : List ℕ) {r : Refusal} (e : jobOf bytes ≡ Refused r) where
         passes = λ z. absurd (unlike-zero r (ap (λ (n : ℕ). n % 256) (sym f) ∙ z));
         unmet = λ z. absurd (omega (arith, n, f, z));
         singular = λ z. absurd (omega (arith, n, f, z));
+        rounds = (λ z. absurd (omega (arith, n, f, z)), λ z. absurd (omega (arith, n, f, z)));
         handed-on = λ q u. absurd (unlike-whole (u .read));
       }
 

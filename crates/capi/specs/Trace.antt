@@ -1,7 +1,7 @@
 -- The trace's word and the lent numbers after it. Definitions only.
 use mathlib.Core.Path.{_≡_}
 use mathlib.Core.List.{List}
-use Prim.Native.Nat.{ℕ, _+_, _*_, _^_, _<_}
+use Prim.Native.Nat.{ℕ, _+_, _*_, _^_, _≤_, _<_}
 use lib.Ieee.{Float}
 use Rattle.refusal.specs.declared.Refusal.{Refusal}
 use Rattle.refusal.specs.declared.Refusal.the-variants as variant
@@ -10,6 +10,7 @@ use Rattle.refusal.specs.Refusal as refusal
 use Rattle.groups.specs.declared.traced.Traced.{Traced}
 use Rattle.groups.specs.declared.traced.Traced.the-variants.{Line, Refused}
 use Rattle.groups.specs.Traced.{Outcome, countOf, startOf, roundOf, closingOf}
+use Rattle.meeting.specs.Newton.{mostRounds}
 use Rattle.walk.specs.Trace.{traceOf}
 use Rattle.job.specs.declared.file.JobRead.{JobRead}
 use Rattle.job.specs.declared.file.JobRead.the-variants as read
@@ -49,8 +50,10 @@ pub record TraceWord (bytes : List ℕ) (before after : List Float) (w : ℕ) : 
   pub buffer : after ≡ traceAnswer bytes before .numbers
   -- a low byte of 0: the line in the buffer passes with the count, start and code read out of the word, and its exact gaps are small
   pub passes : numberIn w ≡ 0 → JobPasses bytes after (countIn w) (startIn w) (closingIn w)
-  -- (02, A2) a low byte of 9 or 21 and the byte above it are what `meet` of the job's guess refuses with, and its round; so the word is that of a guess
-  -- unmet exactly when the guess is
+  -- (02, A2) a low byte of 9 or 21, with the byte above it: the number and the round with which `meet` of the job's guess refuses; and where it refuses,
+  -- the word is no other
   pub unmet : numberIn w ≡ numberOf (variant.NoMeeting (roundIn w)) → JobUnmet bytes before (variant.NoMeeting (roundIn w))
   pub singular : numberIn w ≡ numberOf (variant.Singular (roundIn w)) → JobUnmet bytes before (variant.Singular (roundIn w))
   pub handed-on : (q : Refusal) → JobUnmet bytes before q → w ≡ numberOf q + refusal.roundOf q * 2 ^ 8
+  -- the round is at most 32 beside 9 and at most 31 beside 21
+  pub rounds : (numberIn w ≡ numberOf (variant.NoMeeting (roundIn w)) → roundIn w ≤ mostRounds) × (numberIn w ≡ numberOf (variant.Singular (roundIn w)) → roundIn w < mostRounds)

@@ -1,5 +1,5 @@
 -- A meeting fails with 9 in a round of at most 32, or with 21 in one of at most 31.
-use mathlib.Core.Path.{_≡_, refl, subst}
+use mathlib.Core.Path.{_≡_, refl, ap, subst}
 use mathlib.Core.Bool.{Bool, true, false}
 use mathlib.Core.Logic.{inl, inr, ⊎-elim}
 use Prim.Native.Nat.{ℕ, _≤_, _<_}
@@ -11,7 +11,7 @@ use Rattle.number.specs.Operators.{_⊗_}
 use Rattle.number.specs.Helpers.{tenth}
 use Rattle.refusal.specs.declared.Refusal.{Refusal}
 use Rattle.refusal.specs.declared.Refusal.the-variants as refusal
-use Rattle.refusal.specs.Refusal.{roundOf}
+use Rattle.refusal.specs.Refusal.{numberOf, roundOf}
 use Rattle.geometry.specs.declared.tolerance.Tolerance.{Tolerance}
 use Rattle.patch.specs.declared.patch.Patch.{Patch}
 use Rattle.patch.specs.declared.patch.Parameters.{Parameters}
@@ -80,3 +80,7 @@ meet-unmet a b x tol q e = newton-promised a b _ _ _ refl .unmet q e
 -- either way the round is at most 32
 pub unmet-round : (q : Refusal) → Unmet q → roundOf q ≤ mostRounds
 unmet-round q u = ⊎-elim (λ h. h .1) (λ h. omega (arith, h .1)) u
+
+-- and beside 21 it is below
+pub singular-round : (i : ℕ) → Unmet (refusal.Singular i) → i < mostRounds
+singular-round i u = ⊎-elim (λ h. absurd (let z = ap numberOf (h .0) in let y : ⊥ = omega (arith, z) in y)) (λ h. h .1) u

@@ -11,7 +11,8 @@ use Rattle.refusal.proofs.Laws.{number-positive}
 use Rattle.geometry.specs.declared.tolerance.Tolerance.{Tolerance}
 use Rattle.patch.specs.declared.patch.Patch.{Patch}
 use Rattle.patch.specs.declared.patch.Parameters.{Parameters}
-use Rattle.meeting.proofs.Rounds.{meet-unmet}
+use Rattle.meeting.specs.Newton.{Unmet}
+use Rattle.meeting.proofs.Rounds.{meet-unmet, unmet-round, singular-round}
 use Rattle.refusal.specs.declared.Verdict.{Verdict}
 use Rattle.refusal.specs.declared.Verdict.the-variants.{Passed, Refused}
 use Rattle.certificate.specs.Passes.{Passes}
@@ -52,12 +53,17 @@ trace-promised a b tol guess cap before {after} {r} answer buffer =
       unmet = λ i e. guess-unmet (refusal.NoMeeting i) (unmet-seeds i) e;
       singular = λ i e. guess-unmet (refusal.Singular i) (singular-seeds i) e;
       handed-on = λ q g. answer ∙ unmet-answer a b tol guess cap before q (g .fit) (g .meeting);
+      rounds = λ i.
+          (λ e. unmet-round (refusal.NoMeeting i) (why (refusal.NoMeeting i) (unmet-seeds i) e), λ e. singular-round i (why (refusal.Singular i) (singular-seeds i) e));
     }
   where
     guess-unmet : (q : Refusal) → Seeds q → r ≡ traced.Refused q → GuessUnmet a b tol guess cap before q
     guess-unmet q s e =
         let h = answer-unmet a b tol guess cap before q s (sym answer ∙ e) in
-        record { fit = h .0; meeting = h .1; round = meet-unmet a b guess tol q (h .1) }
+        record { fit = h .0; meeting = h .1 }
+
+    why : (q : Refusal) → Seeds q → r ≡ traced.Refused q → Unmet q
+    why q s e = meet-unmet a b guess tol q (guess-unmet q s e .meeting)
 
     passes : trace.refusalOf r ≡ 0 → Passes a b tol after (countOf r) (startOf r) (closingOf r)
     passes = rw (answer, buffer) (trace-passes a b tol guess cap before)

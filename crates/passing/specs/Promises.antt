@@ -22,7 +22,7 @@ use Rattle.refusal.specs.Refusal.{numberOf}
 use Rattle.refusal.specs.declared.Verdict.{Verdict}
 use Rattle.refusal.specs.declared.Verdict.the-variants.{Passed}
 use Rattle.meeting.specs.declared.newton.Met.the-variants as met
-use Rattle.meeting.specs.Newton.{meetOf, Unmet}
+use Rattle.meeting.specs.Newton.{mostRounds, meetOf}
 use Rattle.certificate.specs.Passes.{parametersAt, Passes}
 use Rattle.certificate.specs.Check.{checkOf}
 use Rattle.refusal.specs.Verdict as verdict
@@ -66,11 +66,10 @@ pub record JobPasses (bytes : List ℕ) (l : List Float) (count start closing : 
   pub passes : Passes (job .a) (job .b) (job .tol) l count start closing
   pub exact : ExactGaps (job .a) (job .b) (job .tol) l count
 
--- (02, A2) `meet` of the guess refuses with q, where none of 1 to 8 refuses: q is 9, in a round of at most 32, or 21, in one of at most 31.
+-- (02, A2) None of 1 to 8 refuses, and `meet` of the guess refuses with q.
 pub record GuessUnmet (a b : Patch) (tol : Tolerance) (guess : Parameters) (cap : ℕ) (before : List Float) (q : Refusal) : Type 0 where
   pub fit : callFitness a b tol guess cap before ≡ Passed
   pub meeting : meetOf a b guess tol ≡ met.Refused q
-  pub round : Unmet q
 
 -- The bytes are a job file, and `meet` of its guess refuses so.
 pub record JobUnmet (bytes : List ℕ) (before : List Float) (q : Refusal) : Type 0 where
@@ -97,6 +96,8 @@ pub record TracePromise (a b : Patch) (tol : Tolerance) (guess : Parameters) (ca
   pub unmet : (i : ℕ) → r ≡ Refused (refusal.NoMeeting i) → GuessUnmet a b tol guess cap before (refusal.NoMeeting i)
   pub singular : (i : ℕ) → r ≡ Refused (refusal.Singular i) → GuessUnmet a b tol guess cap before (refusal.Singular i)
   pub handed-on : (q : Refusal) → GuessUnmet a b tol guess cap before q → r ≡ Refused q
+  -- which is at most 32 beside 9 and at most 31 beside 21
+  pub rounds : (i : ℕ) → (r ≡ Refused (refusal.NoMeeting i) → i ≤ mostRounds) × (r ≡ Refused (refusal.Singular i) → i < mostRounds)
 
 -- the check of the first `count` points of a list
 pub record CheckPromise (a b : Patch) (tol : Tolerance) (l : List Float) (count start closing : ℕ) (r : Verdict) : Type 0 where
