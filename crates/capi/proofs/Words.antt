@@ -99,7 +99,7 @@ unfolding tracedWord
 refused-round q k =
     let h = number-small q in
     let e : (numberOf q + roundOf q * 256) / 256 ≡ roundOf q = omega (arith, h) in
-    rw e (omega (arith, k))
+    ap (λ (n : ℕ). n % 256) e ∙ (let f : roundOf q % 256 ≡ roundOf q = omega (arith, k) in f)
 
 -- a low byte of 0: nothing is refused, and the parts read out of the word are the answer's
 pub parts : (r : Traced) → Bounded r → numberIn (tracedWord r) ≡ 0

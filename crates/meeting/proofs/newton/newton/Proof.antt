@@ -1,10 +1,10 @@
 -- The loop's invariant: the rounds left give what all of them give.
-use mathlib.Core.Path.{_≡_, refl, _∙_}
+use mathlib.Core.Path.{_≡_, refl, sym, ap, _∙_}
 use Prim.Native.Nat.{_-_, _≤_}
 use borrow.Author.Needs.{needs}
 use native.Mathlib.Omega.{arith}
 use Rattle.loops.proofs.Loop.{searched-again, searched-leave, searched-done}
-use Rattle.meeting.specs.Newton.{mostRounds, roundsFrom, newtonOf}
+use Rattle.meeting.specs.Newton.{mostRounds, goingOn, roundsFrom, newtonOf}
 use Rattle.meeting.proofs.newton.newton.Statement.{statement}
 use Rattle.meeting.proofs.newton.newton.Tie as tie
 
@@ -38,7 +38,7 @@ returns c =
     let r = c .before .before .before in
     let l = r .before in
     let p = l .before in
-    searched-leave _ _ _ mostRounds (l .loop-test .taken) (rw (← r .newton-round .ensures, c .before .round .given .1)) (p .loop .inv .0) ∙ start-is (p .before)
+    searched-leave _ _ _ mostRounds (l .loop-test .taken) (ap goingOn (sym (r .newton-round .ensures) ∙ c .before .round .given .1)) (p .loop .inv .0) ∙ start-is (p .before)
 
 enum-known-round-2 : tie.Need-enum-known-round-2 Inv-loop μ-loop
 enum-known-round-2 c = search needs
@@ -53,7 +53,10 @@ loop-again : tie.Need-loop-again Inv-loop μ-loop
 loop-again c =
     let r = c .before .before .before in
     let l = r .before in
-    (searched-again _ _ _ mostRounds (l .loop-test .taken) (rw (← r .newton-round .ensures, c .before .round2 .given .1)) (l .before .loop .inv .0), omega (arith, l .loop-test .taken))
+    (
+      searched-again _ _ _ mostRounds (l .loop-test .taken) (ap goingOn (sym (r .newton-round .ensures) ∙ c .before .round2 .given .1)) (l .before .loop .inv .0),
+      omega (arith, l .loop-test .taken),
+    )
 
 last-test-requires : tie.Need-last-test-requires Inv-loop μ-loop
 last-test-requires c κs = search needs

@@ -1,4 +1,4 @@
-use mathlib.Core.Path.{_≡_, sym, _∙_}
+use mathlib.Core.Path.{_≡_, sym, ap, _∙_}
 use mathlib.Core.Bool.{Bool}
 use lib.Ieee.{Float}
 use borrow.Author.Needs.{needs}
@@ -6,6 +6,7 @@ use Rattle.number.specs.Operators.{_⊗_}
 use Rattle.number.specs.Helpers.{tenth}
 use Rattle.patch.specs.declared.patch.Patch.{Patch}
 use Rattle.meeting.specs.declared.correction.Residual.{Residual}
+use Rattle.meeting.specs.declared.newton.Round.the-variants as round
 use Rattle.meeting.specs.Newton.{nearOf, newtonRound}
 use Rattle.meeting.proofs.newton.newton_round.Statement.{statement}
 use Rattle.meeting.proofs.newton.newton_round.Tie as tie
@@ -57,7 +58,7 @@ returns-3 c =
     let n = d .before .before in
     let i = n .before in
     rw (at-once _ _ _ _ (i .before .near .ensures) (i .if1 .left), ← n .newton-correction .ensures, d .correction .given .1, ← t .trials .ensures)
-    (rw (c .before .enum-told2 .given .1, ← c .last-test .ensures))
+    (rw (c .before .enum-told2 .given .1) (ap round.End (c .last-test .ensures)))
 
 returns-4 : tie.Need-returns-4
 unfolding newtonRound
