@@ -52,8 +52,7 @@ loop-less c = omega (arith, c .before .before .before .before .loop-test .taken)
 loop-again : tie.Need-loop-again Inv-loop μ-loop
 loop-again c =
     let r = c .before .before .before in
-    let l = r .before in
-    (
+    let l = r .before in (
       searched-again _ _ _ mostRounds (l .loop-test .taken) (ap goingOn (sym (r .newton-round .ensures) ∙ c .before .round2 .given .1)) (l .before .loop .inv .0),
       omega (arith, l .loop-test .taken),
     )
