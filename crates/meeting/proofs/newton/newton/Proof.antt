@@ -1,10 +1,15 @@
 -- The loop's invariant: the rounds left give what all of them give.
 use mathlib.Core.Path.{_≡_, refl, sym, ap, _∙_}
-use Prim.Native.Nat.{_-_, _≤_}
+use Prim.Native.Nat.{ℕ, _-_, _≤_}
 use borrow.Author.Needs.{needs}
 use native.Mathlib.Omega.{arith}
+use lib.Ieee.{Float}
 use Rattle.loops.proofs.Loop.{searched-again, searched-leave, searched-done}
-use Rattle.meeting.specs.Newton.{mostRounds, goingOn, roundsFrom, newtonOf}
+use Rattle.patch.specs.declared.patch.Patch.{Patch}
+use Rattle.meeting.specs.declared.correction.Target.{Target}
+use Rattle.meeting.specs.declared.correction.Residual.{Residual}
+use Rattle.meeting.specs.declared.newton.Round.{Round}
+use Rattle.meeting.specs.Newton.{newtonRound, mostRounds, goingOn, roundBody, roundsFrom, newtonOf}
 use Rattle.meeting.proofs.newton.newton.Statement.{statement}
 use Rattle.meeting.proofs.newton.newton.Tie as tie
 
@@ -13,6 +18,11 @@ Inv-loop a b target confusion s₀ i₀ s i = (roundsFrom a b target confusion i
 
 abbrev μ-loop : tie.MeasureT-loop
 μ-loop a b target confusion s₀ i₀ s i = mostRounds - i
+
+-- what a round says to the loop
+said : (a b : Patch) (target : Target) (confusion : Float) (i : ℕ) (s : Residual) {r q : Round} → r ≡ newtonRound a b target confusion i s → r ≡ q
+    → roundBody a b target confusion i s ≡ goingOn q
+said a b target confusion i s e f = ap goingOn (sym e ∙ f)
 
 -- the first state is that of the definition
 start-is : (c : tie.After-residual-at Inv-loop μ-loop)
@@ -38,7 +48,7 @@ returns c =
     let r = c .before .before .before in
     let l = r .before in
     let p = l .before in
-    searched-leave _ _ _ mostRounds (l .loop-test .taken) (ap goingOn (sym (r .newton-round .ensures) ∙ c .before .round .given .1)) (p .loop .inv .0) ∙ start-is (p .before)
+    searched-leave _ _ _ mostRounds (l .loop-test .taken) (said _ _ _ _ (p .loop .i) _ (r .newton-round .ensures) (c .before .round .given .1)) (p .loop .inv .0) ∙ start-is (p .before)
 
 enum-known-round-2 : tie.Need-enum-known-round-2 Inv-loop μ-loop
 enum-known-round-2 c = search needs
@@ -53,7 +63,7 @@ loop-again : tie.Need-loop-again Inv-loop μ-loop
 loop-again c =
     let r = c .before .before .before in
     let l = r .before in (
-      searched-again _ _ _ mostRounds (l .loop-test .taken) (ap goingOn (sym (r .newton-round .ensures) ∙ c .before .round2 .given .1)) (l .before .loop .inv .0),
+      searched-again _ _ _ mostRounds (l .loop-test .taken) (said _ _ _ _ (l .before .loop .i) _ (r .newton-round .ensures) (c .before .round2 .given .1)) (l .before .loop .inv .0),
       omega (arith, l .loop-test .taken),
     )
 
