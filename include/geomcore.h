@@ -73,8 +73,8 @@ uint64_t geomcore_point(const uint8_t *surface, size_t bytes, double u, double v
  * The guess leads to no meeting: 9 or 21 in the low byte, and in the byte above it (word >> 8 & 255) the Newton round, from 0, in which
  * the meeting gave up.
  *   21: a solve gave up, in a round of 0 to 31. Where that round stood the two surfaces are as good as parallel, or one has no normal
- *       there (a pole, an apex), or a radius near the limit of 2^20 makes them look so. Round 0 stands at the guess. Another pair of
- *       surfaces is needed; where they bend, a guess elsewhere may do.
+ *       there (a pole, an apex), or a radius near the limit of 2^20 makes them look so. Round 0 stands at the guess, drawn into the
+ *       windows. Another pair of surfaces is needed; where they bend, a guess elsewhere may do.
  *   9:  every other failed meeting. 0 to 31: in that round no trial came nearer; 32: all rounds came nearer, none near enough. Another
  *       guess is needed; none will do where the surfaces do not meet inside their windows.
  * Proved: where the low byte is 0 the line in the buffer passes the check under the job, with that count, start and code; where it is 9 or

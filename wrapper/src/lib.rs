@@ -68,8 +68,8 @@ pub const SURFACE_B: usize = 151;
 /// 9 or 21 refuses gave up (0 for the others).
 ///
 /// 21: a solve gave up, in a round of 0 to 31. Where that round stood the two surfaces are as good as parallel, or one has no normal there
-/// (a pole, an apex), or a radius near the limit of 2^20 makes them look so; round 0 stands at the guess. Another pair of surfaces is
-/// needed; where they bend, a guess elsewhere may do.
+/// (a pole, an apex), or a radius near the limit of 2^20 makes them look so; round 0 stands at the guess, drawn into the windows. Another
+/// pair of surfaces is needed; where they bend, a guess elsewhere may do.
 ///
 /// 9: every other failed meeting. 0 to 31: in that round no trial came nearer; 32: all rounds came nearer, none near enough. Another guess
 /// is needed; none will do where the surfaces do not meet inside their windows.
