@@ -2,7 +2,7 @@
 use mathlib.Core.Path.{_≡_, refl, sym, ap, _∙_, subst}
 use mathlib.Core.List.{List}
 use mathlib.Core.Logic.{⊎-elim}
-use Prim.Native.Nat.{ℕ, _+_, _*_, _/_, _%_, _^_, _≤_, _<_}
+use Prim.Native.Nat.{ℕ, _+_, _*_, _/_, _%_, _^_, _<_}
 use native.Mathlib.Omega.{arith}
 use lib.Ieee.{Float}
 use Rattle.refusal.specs.declared.Refusal.{Refusal}
@@ -124,16 +124,15 @@ module _ (bytes : List ℕ) (j : Job) (read : jobOf bytes ≡ Whole j) (before a
 
   -- a low byte of 9 or 21: the guess is unmet in the round read out of the word
   told : (refused : ℕ → Refusal) → ((q : Refusal) (i : ℕ) → numberOf q ≡ numberOf (refused i) → q ≡ refused (roundOf q))
-      → ((i : ℕ) → 1 ≤ numberOf (refused i)) → (r : Traced) → TracePromise (j .a) (j .b) (j .tol) (j .guess) (j .cap) before after r
+      → (r : Traced) → TracePromise (j .a) (j .b) (j .tol) (j .guess) (j .cap) before after r
       → ((i : ℕ) → r ≡ traced.Refused (refused i) → GuessUnmet (j .a) (j .b) (j .tol) (j .guess) (j .cap) before (refused i))
       → numberIn (tracedWord r) ≡ numberOf (refused (roundIn (tracedWord r))) → JobUnmet bytes before (refused (roundIn (tracedWord r)))
   unfolding tracedWord
-  told refused by-number positive (traced.Refused q) p g z =
+  told refused by-number (traced.Refused q) p g z =
       let e = by-number q _ (sym (refused-number q) ∙ z) in
       rw (refused-round q (round-fits q p)) (record { job = j; read = read; guess = g (roundOf q) (ap traced.Refused e) })
-  told refused by-number positive (traced.Line count start closing) p g z =
-      let i = roundIn (closing * 2 ^ 8 + start * 2 ^ 16 + count * 2 ^ 32) in
-      let k = positive i in
+  told refused by-number (traced.Line count start closing) p g z =
+      let k = number-positive (refused (roundIn (closing * 2 ^ 8 + start * 2 ^ 16 + count * 2 ^ 32))) in
       let e : (closing * 256 + start * 65536 + count * 4294967296) % 256 ≡ 0 = omega arith in
       absurd (let y : ⊥ = omega (arith, k, e, z) in y)
 
@@ -153,10 +152,10 @@ module _ (bytes : List ℕ) (j : Job) (read : jobOf bytes ≡ Whole j) (before a
       }
     where
       unmet : numberIn (tracedWord r) ≡ numberOf (variant.NoMeeting (roundIn (tracedWord r))) → JobUnmet bytes before (variant.NoMeeting (roundIn (tracedWord r)))
-      unmet = told variant.NoMeeting told-unmet (λ i. omega arith) r p (p .unmet)
+      unmet = told variant.NoMeeting told-unmet r p (p .unmet)
 
       singular : numberIn (tracedWord r) ≡ numberOf (variant.Singular (roundIn (tracedWord r))) → JobUnmet bytes before (variant.Singular (roundIn (tracedWord r)))
-      singular = told variant.Singular told-singular (λ i. omega arith) r p (p .singular)
+      singular = told variant.Singular told-singular r p (p .singular)
 
       why : (q : Refusal) → JobUnmet bytes before q → Unmet q
       why q u = meet-unmet (u .job .a) (u .job .b) (u .job .guess) (u .job .tol) q (u .guess .meeting)
