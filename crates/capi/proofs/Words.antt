@@ -85,11 +85,7 @@ module _ (code start count : ℕ) (h : code < 256) where
     count-part : (code * 2 ^ 8 + start * 2 ^ 16 + count * 2 ^ 32) / 2 ^ 32 ≡ count
     count-part = omega (arith, h, k)
 
--- a refusal's word, and its parts
-refused-word : (q : Refusal) → tracedWord (traced.Refused q) ≡ numberOf q + roundOf q * 2 ^ 8
-unfolding tracedWord
-refused-word q = refl
-
+-- the parts of a refusal's word
 refused-number : (q : Refusal) → numberIn (tracedWord (traced.Refused q)) ≡ numberOf q
 unfolding tracedWord
 refused-number q = let h = number-small q in let e : (numberOf q + roundOf q * 256) % 256 ≡ numberOf q = omega (arith, h) in e
@@ -148,7 +144,7 @@ module _ (bytes : List ℕ) (j : Job) (read : jobOf bytes ≡ Whole j) (before a
         rounds = rw e (λ z. unmet-round _ (why _ (unmet z)), λ z. singular-round _ (why _ (singular z)));
         handed-on = λ q u.
             let same : u .job ≡ j = ap (jobIn j) (sym (u .read)) ∙ ap (jobIn j) read in
-            e ∙ ap tracedWord (p .handed-on q (subst (λ (k : Job). GuessUnmet (k .a) (k .b) (k .tol) (k .guess) (k .cap) before q) same (u .guess))) ∙ refused-word q;
+            e ∙ ap tracedWord (p .handed-on q (subst (λ (k : Job). GuessUnmet (k .a) (k .b) (k .tol) (k .guess) (k .cap) before q) same (u .guess)));
       }
     where
       unmet : numberIn (tracedWord r) ≡ numberOf (variant.NoMeeting (roundIn (tracedWord r))) → JobUnmet bytes before (variant.NoMeeting (roundIn (tracedWord r)))

@@ -54,6 +54,6 @@ pub record TraceWord (bytes : List ℕ) (before after : List Float) (w : ℕ) : 
   -- the word is no other
   pub unmet : numberIn w ≡ numberOf (variant.NoMeeting (roundIn w)) → JobUnmet bytes before (variant.NoMeeting (roundIn w))
   pub singular : numberIn w ≡ numberOf (variant.Singular (roundIn w)) → JobUnmet bytes before (variant.Singular (roundIn w))
-  pub handed-on : (q : Refusal) → JobUnmet bytes before q → w ≡ numberOf q + refusal.roundOf q * 2 ^ 8
+  pub handed-on : (q : Refusal) → JobUnmet bytes before q → w ≡ tracedWord (Refused q)
   -- the round is at most 32 beside 9 and at most 31 beside 21
   pub rounds : (numberIn w ≡ numberOf (variant.NoMeeting (roundIn w)) → roundIn w ≤ mostRounds) × (numberIn w ≡ numberOf (variant.Singular (roundIn w)) → roundIn w < mostRounds)

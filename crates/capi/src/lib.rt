@@ -119,7 +119,10 @@ fn traced_word(answer: Traced) -> u64
             start,
             closing,
         } => line_word(count, start, closing),
-        Traced::Refused(refusal) => refusal.number() + refusal.round() * 256,
+        Traced::Refused(refusal) => {
+            let n = refusal.numbers();
+            n.number + n.round * 256
+        }
     }
 }
 
@@ -158,7 +161,10 @@ fn checked_word(answer: Verdict) -> u64
 {
     match answer {
         Verdict::Passed => 0,
-        Verdict::Refused(refusal) => refused_word(refusal.number(), refusal.index()),
+        Verdict::Refused(refusal) => {
+            let n = refusal.numbers();
+            refused_word(n.number, n.index)
+        }
     }
 }
 

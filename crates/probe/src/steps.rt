@@ -73,7 +73,10 @@ fn put_met(met: Met, output: &mut [f64]) -> u64
             put_parameters(output, y);
             1
         }
-        Met::Refused(refusal) => refusal.number() * 256 + refusal.round() * 65536,
+        Met::Refused(refusal) => {
+            let n = refusal.numbers();
+            n.number * 256 + n.round * 65536
+        }
     }
 }
 

@@ -7,7 +7,7 @@ use native.Mathlib.Omega.{arith}
 use Rattle.refusal.specs.declared.Refusal.{Refusal}
 use Rattle.refusal.specs.declared.Verdict.{Verdict}
 use Rattle.refusal.specs.declared.Verdict.the-variants.{Passed, Refused}
-use Rattle.refusal.specs.Refusal.{indexOf, roundOf}
+use Rattle.refusal.specs.Refusal.{alone, numbersOf, numberOf, indexOf}
 use Rattle.refusal.specs.Verdict.{indexIn, asked, andThen, firstRefusal, AllPassed}
 
 abbrev sign : Verdict → ℕ
@@ -66,10 +66,10 @@ pub asked-each : (P : Verdict → Type 0) (t : Bool) (r : Refusal) → P Passed 
 asked-each P true r p q = p
 asked-each P false r p q = q
 
--- a test's refusal has no round
-abbrev pub NoRound : Verdict → Type 0
-NoRound Passed = Unit {0}
-NoRound (Refused r) = roundOf r ≡ 0
+-- a test's refusal is its number alone
+abbrev pub Alone : Verdict → Type 0
+Alone Passed = Unit {0}
+Alone (Refused r) = numbersOf r ≡ alone (numberOf r)
 
 -- the index that a test's refusal names is at most n
 abbrev pub Below : ℕ → Verdict → Type 0

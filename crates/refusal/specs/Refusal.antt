@@ -1,79 +1,56 @@
 -- The numbers of document 01's refusals ("A refusal is its number alone; 13 to 16 add the index of the point"), and of 02's. Definitions only.
 use Prim.Native.Nat.{ℕ}
+use Rattle.refusal.specs.declared.Numbers.{Numbers}
 use Rattle.refusal.specs.declared.Refusal.{Refusal}
 use Rattle.refusal.specs.declared.Refusal.the-variants.{Number, Size, Window, TurnMark, Tolerance, Parameter, StepCap, Lent, NoMeeting, Singular, NoDirection, TooShort}
 use Rattle.refusal.specs.declared.Refusal.the-variants.{Claim, NotOwnPoint, OutsideWindow, Gap, Chord, BoxNumber, Coordinate, JobFile, TraceFile}
 
+-- "A refusal is its number alone"
+abbrev pub alone : ℕ → Numbers
+alone n = record { number = n; index = 0; round = 0 }
+
+-- "13 to 16 add the index of the point", from 0
+abbrev pub ofPoint : ℕ → ℕ → Numbers
+ofPoint n i = record { number = n; index = i; round = 0 }
+
+-- 02, A2: "beside 9 or 21 only, in which Newton round, from 0, they gave up"
+abbrev pub inRound : ℕ → ℕ → Numbers
+inRound n i = record { number = n; index = 0; round = i }
+
 -- "Who can cause a refusal", in its order
-abbrev pub numberOf : Refusal → ℕ
-numberOf Number = 1
-numberOf Size = 2
-numberOf Window = 3
-numberOf TurnMark = 4
-numberOf Tolerance = 5
-numberOf Parameter = 6
-numberOf StepCap = 7
-numberOf Lent = 8
-numberOf (NoMeeting i) = 9
-numberOf NoDirection = 10
-numberOf TooShort = 11
-numberOf Claim = 12
-numberOf (NotOwnPoint i) = 13
-numberOf (OutsideWindow i) = 14
-numberOf (Gap i) = 15
-numberOf (Chord i) = 16
-numberOf BoxNumber = 17
-numberOf Coordinate = 18
-numberOf JobFile = 19
+abbrev pub numbersOf : Refusal → Numbers
+numbersOf Number = alone 1
+numbersOf Size = alone 2
+numbersOf Window = alone 3
+numbersOf TurnMark = alone 4
+numbersOf Tolerance = alone 5
+numbersOf Parameter = alone 6
+numbersOf StepCap = alone 7
+numbersOf Lent = alone 8
+numbersOf (NoMeeting i) = inRound 9 i
+numbersOf NoDirection = alone 10
+numbersOf TooShort = alone 11
+numbersOf Claim = alone 12
+numbersOf (NotOwnPoint i) = ofPoint 13 i
+numbersOf (OutsideWindow i) = ofPoint 14 i
+numbersOf (Gap i) = ofPoint 15 i
+numbersOf (Chord i) = ofPoint 16 i
+numbersOf BoxNumber = alone 17
+numbersOf Coordinate = alone 18
+numbersOf JobFile = alone 19
 -- 02, A1: "New numbers, here and later, join document 01's list"
-numberOf TraceFile = 20
+numbersOf TraceFile = alone 20
 -- 02, A2: "21, in the place of 9, when a solve gave up"
-numberOf (Singular i) = 21
+numbersOf (Singular i) = inRound 21 i
 
--- the index of the point, from 0, that 13 to 16 add; 0 for all others
+-- the number
+abbrev pub numberOf : Refusal → ℕ
+numberOf r = numbersOf r .number
+
+-- the index of the point; 0 for all but 13 to 16
 abbrev pub indexOf : Refusal → ℕ
-indexOf Number = 0
-indexOf Size = 0
-indexOf Window = 0
-indexOf TurnMark = 0
-indexOf Tolerance = 0
-indexOf Parameter = 0
-indexOf StepCap = 0
-indexOf Lent = 0
-indexOf (NoMeeting i) = 0
-indexOf (Singular i) = 0
-indexOf NoDirection = 0
-indexOf TooShort = 0
-indexOf Claim = 0
-indexOf (NotOwnPoint i) = i
-indexOf (OutsideWindow i) = i
-indexOf (Gap i) = i
-indexOf (Chord i) = i
-indexOf BoxNumber = 0
-indexOf Coordinate = 0
-indexOf JobFile = 0
-indexOf TraceFile = 0
+indexOf r = numbersOf r .index
 
--- 02, A2: "beside 9 or 21 only, in which Newton round, from 0, they gave up"; 0 for all others
+-- the Newton round; 0 for all but 9 and 21
 abbrev pub roundOf : Refusal → ℕ
-roundOf Number = 0
-roundOf Size = 0
-roundOf Window = 0
-roundOf TurnMark = 0
-roundOf Tolerance = 0
-roundOf Parameter = 0
-roundOf StepCap = 0
-roundOf Lent = 0
-roundOf (NoMeeting i) = i
-roundOf (Singular i) = i
-roundOf NoDirection = 0
-roundOf TooShort = 0
-roundOf Claim = 0
-roundOf (NotOwnPoint i) = 0
-roundOf (OutsideWindow i) = 0
-roundOf (Gap i) = 0
-roundOf (Chord i) = 0
-roundOf BoxNumber = 0
-roundOf Coordinate = 0
-roundOf JobFile = 0
-roundOf TraceFile = 0
+roundOf r = numbersOf r .round

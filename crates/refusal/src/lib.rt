@@ -1,6 +1,6 @@
 //! Why a call is refused: one enum for every call, and document 01's number for each case.
 ghost use mathlib.Core.Path.{_≡_};
-ghost use Rattle.refusal.specs.Refusal.{numberOf, indexOf, roundOf};
+ghost use Rattle.refusal.specs.Refusal.{alone, ofPoint, inRound, numbersOf, numberOf};
 
 pub enum Refusal {
     // Of a surface: a number of the frame or a size, a wrong size, a window, a turn mark.
@@ -31,97 +31,87 @@ pub enum Refusal {
     TraceFile,
 }
 
+// A refusal's number, and what some add to it: the index of a point, a Newton round. 0 where it adds none.
+pub struct Numbers {
+    pub number: u64,
+    pub index: u64,
+    pub round: u64,
+}
+
 // What tests say: all passed, or the first refusal.
 pub enum Verdict {
     Passed,
     Refused(Refusal),
 }
 
+// A refusal that is its number alone.
+fn alone(number: u64) -> Numbers
+    ensures { λ r. ⌜ r ≡ alone number ⌝ }
+{
+    Numbers {
+        number,
+        index: 0,
+        round: 0,
+    }
+}
+
+// One that names a point of the trace.
+fn of_point(number: u64, index: u64) -> Numbers
+    ensures { λ r. ⌜ r ≡ ofPoint number index ⌝ }
+{
+    Numbers {
+        number,
+        index,
+        round: 0,
+    }
+}
+
+// One of a meeting that failed in a round of Newton's method.
+fn in_round(number: u64, round: u64) -> Numbers
+    ensures { λ r. ⌜ r ≡ inRound number round ⌝ }
+{
+    Numbers {
+        number,
+        index: 0,
+        round,
+    }
+}
+
 impl Refusal {
-    // Document 01's number.
+    // Document 01's number, and what it adds.
+    pub fn numbers(self) -> Numbers
+        ensures { λ r. ⌜ r ≡ numbersOf self ⌝ }
+    {
+        match self {
+            Refusal::Number => alone(1),
+            Refusal::Size => alone(2),
+            Refusal::Window => alone(3),
+            Refusal::TurnMark => alone(4),
+            Refusal::Tolerance => alone(5),
+            Refusal::Parameter => alone(6),
+            Refusal::StepCap => alone(7),
+            Refusal::Lent => alone(8),
+            Refusal::NoMeeting(i) => in_round(9, i),
+            Refusal::Singular(i) => in_round(21, i),
+            Refusal::NoDirection => alone(10),
+            Refusal::TooShort => alone(11),
+            Refusal::Claim => alone(12),
+            Refusal::NotOwnPoint(i) => of_point(13, i),
+            Refusal::OutsideWindow(i) => of_point(14, i),
+            Refusal::Gap(i) => of_point(15, i),
+            Refusal::Chord(i) => of_point(16, i),
+            Refusal::BoxNumber => alone(17),
+            Refusal::Coordinate => alone(18),
+            Refusal::JobFile => alone(19),
+            Refusal::TraceFile => alone(20),
+        }
+    }
+
+    // The number alone.
     pub fn number(self) -> u64
         ensures { λ r. ⌜ r ≡ numberOf self ⌝ }
     {
-        match self {
-            Refusal::Number => 1,
-            Refusal::Size => 2,
-            Refusal::Window => 3,
-            Refusal::TurnMark => 4,
-            Refusal::Tolerance => 5,
-            Refusal::Parameter => 6,
-            Refusal::StepCap => 7,
-            Refusal::Lent => 8,
-            Refusal::NoMeeting(_) => 9,
-            Refusal::Singular(_) => 21,
-            Refusal::NoDirection => 10,
-            Refusal::TooShort => 11,
-            Refusal::Claim => 12,
-            Refusal::NotOwnPoint(_) => 13,
-            Refusal::OutsideWindow(_) => 14,
-            Refusal::Gap(_) => 15,
-            Refusal::Chord(_) => 16,
-            Refusal::BoxNumber => 17,
-            Refusal::Coordinate => 18,
-            Refusal::JobFile => 19,
-            Refusal::TraceFile => 20,
-        }
-    }
-
-    // The index of the point that 13 to 16 name, and 0 for the others.
-    pub fn index(self) -> u64
-        ensures { λ r. ⌜ r ≡ indexOf self ⌝ }
-    {
-        match self {
-            Refusal::NotOwnPoint(i) => i,
-            Refusal::OutsideWindow(i) => i,
-            Refusal::Gap(i) => i,
-            Refusal::Chord(i) => i,
-            Refusal::Number => 0,
-            Refusal::Size => 0,
-            Refusal::Window => 0,
-            Refusal::TurnMark => 0,
-            Refusal::Tolerance => 0,
-            Refusal::Parameter => 0,
-            Refusal::StepCap => 0,
-            Refusal::Lent => 0,
-            Refusal::NoMeeting(_) => 0,
-            Refusal::Singular(_) => 0,
-            Refusal::NoDirection => 0,
-            Refusal::TooShort => 0,
-            Refusal::Claim => 0,
-            Refusal::BoxNumber => 0,
-            Refusal::Coordinate => 0,
-            Refusal::JobFile => 0,
-            Refusal::TraceFile => 0,
-        }
-    }
-
-    // The Newton round, from 0, in which a meeting that 9 or 21 refuses gave up, and 0 for the others.
-    pub fn round(self) -> u64
-        ensures { λ r. ⌜ r ≡ roundOf self ⌝ }
-    {
-        match self {
-            Refusal::NoMeeting(i) => i,
-            Refusal::Singular(i) => i,
-            Refusal::Number => 0,
-            Refusal::Size => 0,
-            Refusal::Window => 0,
-            Refusal::TurnMark => 0,
-            Refusal::Tolerance => 0,
-            Refusal::Parameter => 0,
-            Refusal::StepCap => 0,
-            Refusal::Lent => 0,
-            Refusal::NoDirection => 0,
-            Refusal::TooShort => 0,
-            Refusal::Claim => 0,
-            Refusal::NotOwnPoint(_) => 0,
-            Refusal::OutsideWindow(_) => 0,
-            Refusal::Gap(_) => 0,
-            Refusal::Chord(_) => 0,
-            Refusal::BoxNumber => 0,
-            Refusal::Coordinate => 0,
-            Refusal::JobFile => 0,
-            Refusal::TraceFile => 0,
-        }
+        let n = self.numbers();
+        n.number
     }
 }

@@ -11,11 +11,12 @@ use Rattle.loops.specs.Over.{written}
 use Rattle.loops.proofs.Over.{take-written, length-written}
 use Rattle.number.proofs.Binary64.{Binary64, take-fits}
 use Rattle.wire.specs.Wire.{AllBytes}
+use Rattle.refusal.specs.declared.Numbers.{Numbers}
 use Rattle.refusal.specs.declared.Refusal.the-variants as refusal
 use Rattle.refusal.specs.declared.Verdict.{Verdict}
 use Rattle.refusal.specs.declared.Verdict.the-variants as verdict
 use Rattle.refusal.proofs.Laws.{number-positive}
-use Rattle.refusal.proofs.Order.{first-each, asked-each, NoRound}
+use Rattle.refusal.proofs.Order.{first-each, asked-each, Alone}
 use Rattle.groups.specs.declared.traced.Traced.the-variants.{Line}
 use Rattle.groups.specs.Traced.{Outcome, outcome, refusalOf, countOf, startOf, roundOf, closingOf}
 use Rattle.trace_file.specs.declared.write.Written.the-variants.{Bytes}
@@ -132,15 +133,15 @@ read-is : (version w : ℕ) (s : List ℕ) (t : List Float) → ReadFit version 
 unfolding readOf
 read-is version w s t f = rw (fit-read version w s (length t) f)
 
-read-roundless : (version w : ℕ) (s : List ℕ) (room : ℕ) → NoRound (readFitness version w s room)
+read-alone : (version w : ℕ) (s : List ℕ) (room : ℕ) → Alone (readFitness version w s room)
 unfolding readFitness
-read-roundless version w s room =
-    first-each NoRound (readTests version w s room) (
-      asked-each NoRound (headerFits version w s) refusal.TraceFile tt refl,
+read-alone version w s room =
+    first-each Alone (readTests version w s room) (
+      asked-each Alone (headerFits version w s) refusal.TraceFile tt refl,
       λ h. (
-        asked-each NoRound (allFinite (numbersIn w s)) refusal.TraceFile tt refl,
+        asked-each Alone (allFinite (numbersIn w s)) refusal.TraceFile tt refl,
         λ f.
-            (asked-each NoRound (leb (w * countIn s) room) refusal.Lent tt refl, λ l. tt),
+            (asked-each Alone (leb (w * countIn s) room) refusal.Lent tt refl, λ l. tt),
       ),
     )
 
@@ -148,12 +149,12 @@ read-roundless version w s room =
 pub read-claim : (version w : ℕ) (s : List ℕ) (t : List Float)
     → (let r = readOf version w s t .answer in (countOf r ≤ mostPoints) × (startOf r ≤ mostPoints) × (closingOf r ≤ greatestCode) × (roundOf r ≡ 0))
 unfolding readOf
-read-claim version w s t = go (readFitness version w s (length t)) refl (read-roundless version w s (length t))
+read-claim version w s t = go (readFitness version w s (length t)) refl (read-alone version w s (length t))
   where
-    go : (v : Verdict) → readFitness version w s (length t) ≡ v → NoRound v
+    go : (v : Verdict) → readFitness version w s (length t) ≡ v → Alone v
         → (let r = afterReading w s t v .answer in (countOf r ≤ mostPoints) × (startOf r ≤ mostPoints) × (closingOf r ≤ greatestCode) × (roundOf r ≡ 0))
     go verdict.Passed e n = let k = claim-fits (read-fit version w s (length t) e .header .claim) in (k .1, omega (arith, k .1, k .2), k .3, refl)
-    go (verdict.Refused r) e n = (omega arith, omega arith, omega arith, n)
+    go (verdict.Refused r) e n = (omega arith, omega arith, omega arith, ap (λ (q : Numbers). q .round) n)
 
 -- what is written has few bytes
 pub write-small : (version w : ℕ) (l : List Float) (count start code : ℕ) (t : List ℕ) → w ≤ mostWidth → bytesOf (writeOf version w l count start code t .answer) ≤ 8388618

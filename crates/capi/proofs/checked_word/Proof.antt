@@ -10,17 +10,13 @@ enum-told c = search needs
 enum-known-answer : tie.Need-enum-known-answer
 enum-known-answer c = search needs
 
-number-requires : tie.Need-number-requires
-number-requires c κs = search needs
-
-index-requires : tie.Need-index-requires
-index-requires c κs = search needs
+numbers-requires : tie.Need-numbers-requires
+numbers-requires c κs = search needs
 
 refused-word-requires : tie.Need-refused-word-requires
 refused-word-requires c κs =
-    let n = c .before in
-    let a = n .before .before in
-    (rw (n .number .ensures) (number-fits (a .answer .given .0 .0)), rw (c .index .ensures) (refusal-fits (a .answer .given .1) (a .before .before .pre)))
+    let a = c .before .before in
+    (rw (c .numbers .ensures) (number-fits (a .answer .given .0 .0)), rw (c .numbers .ensures) (refusal-fits (a .answer .given .1) (a .before .before .pre)))
 
 returns : tie.Need-returns
 unfolding checkedWord
@@ -28,7 +24,7 @@ returns c = rw (c .enum-told .given .1)
 
 returns-2 : tie.Need-returns-2
 unfolding checkedWord
-returns-2 c = rw (c .before .before .before .before .answer .given .1, c .refused-word .ensures, c .before .index .ensures, c .before .before .number .ensures)
+returns-2 c = rw (c .before .before .before .answer .given .1, c .refused-word .ensures, c .before .numbers .ensures)
 
 pub checked-word-spec : {M : Type 1} → statement M
-checked-word-spec = tie.close (tie.spec enum-told enum-known-answer number-requires index-requires refused-word-requires returns returns-2)
+checked-word-spec = tie.close (tie.spec enum-told enum-known-answer numbers-requires refused-word-requires returns returns-2)

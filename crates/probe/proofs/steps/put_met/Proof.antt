@@ -8,13 +8,13 @@ use Rattle.meeting.proofs.Rounds.{unmet-round}
 use Rattle.probe.proofs.steps.put_met.Statement.{statement}
 use Rattle.probe.proofs.steps.put_met.Tie as tie
 
-number-fits : (c : tie.After-number) → c .number .result ≤ 255
-number-fits c = rw (c .number .ensures) (number-small (c .before .before .met2 .given .0 .0))
+number-fits : (c : tie.After-numbers) → c .numbers .result .number ≤ 255
+number-fits c = rw (c .numbers .ensures) (number-small (c .before .before .met2 .given .0 .0))
 
-round-fits : (c : tie.After-round) → c .round .result ≤ mostRounds
+round-fits : (c : tie.After-numbers) → c .numbers .result .round ≤ mostRounds
 round-fits c =
-    let m = c .before .before .before in
-    rw (c .round .ensures) (unmet-round _ (m .before .before .before .pre .1 _ (m .met2 .given .1)))
+    let m = c .before .before in
+    rw (c .numbers .ensures) (unmet-round _ (m .before .before .before .pre .1 _ (m .met2 .given .1)))
 
 enum-known-met : tie.Need-enum-known-met
 enum-known-met c = search needs
@@ -25,20 +25,17 @@ put-parameters-requires c κs = search needs
 enum-known-met-2 : tie.Need-enum-known-met-2
 enum-known-met-2 c = search needs
 
-number-requires : tie.Need-number-requires
-number-requires c κs = search needs
+numbers-requires : tie.Need-numbers-requires
+numbers-requires c κs = search needs
 
 mul-result : tie.Need-mul-result
-mul-result c = omega (arith, number-fits c)
-
-round-requires : tie.Need-round-requires
-round-requires c κs = search needs
+mul-result c = omega (arith, number-fits (c .before))
 
 mul-result-2 : tie.Need-mul-result-2
-mul-result-2 c = omega (arith, round-fits c)
+mul-result-2 c = omega (arith, round-fits (c .before .before))
 
 add-result : tie.Need-add-result
-add-result c = omega (arith, number-fits (c .before), round-fits c)
+add-result c = let n = c .before .before in omega (arith, number-fits n, round-fits n)
 
 same-length : tie.Need-same-length
 same-length c = search needs
@@ -49,10 +46,10 @@ returns c =
     rw (p .before .before .before .met .given .1, ← p .put-parameters .ensures)
 
 returns-2 : tie.Need-returns-2
-returns-2 c = rw (c .before .before .before .met2 .given .1, ← c .before .number .ensures, ← c .round .ensures)
+returns-2 c = let n = c .before .before in rw (n .before .before .met2 .given .1, n .numbers .ensures)
 
 pub put-met-spec : {M : Type 1} → statement M
 put-met-spec =
     tie.close
-    (tie.spec enum-known-met put-parameters-requires enum-known-met-2 number-requires mul-result round-requires mul-result-2 add-result
+    (tie.spec enum-known-met put-parameters-requires enum-known-met-2 numbers-requires mul-result mul-result-2 add-result
     same-length returns returns-2)
