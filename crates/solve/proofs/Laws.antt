@@ -72,7 +72,7 @@ module _
     (es : right ≡ swapOf nan b col p)
     (et : t ≡ givesUp (cell rows col col) tol scale)
   where
-    at-pivot : {u : Bool} → t ≡ u → column n tol scale col (system m b) ≡ pick u (out singular) (on (eliminatedOf n col (system rows right)))
+    at-pivot : {u : Bool} → t ≡ u → column n tol scale col (system m b) ≡ pick u (out (singular col)) (on (eliminatedOf n col (system rows right)))
     at-pivot h = rw (es, ← h, et, er, ep)
 
     -- the rows below are eliminated, and the next column follows
@@ -83,5 +83,5 @@ module _
         searched-again _ _ col n below step i
 
     -- the solver gives up
-    pub leaves : t ≡ true → singular ≡ a
+    pub leaves : t ≡ true → singular col ≡ a
     leaves h = searched-leave _ _ col n below (at-pivot h) i

@@ -1,7 +1,8 @@
 -- The square solvers (01, "The walk", "Solving"; the Rust's math/solve.rs), over lists of any size n. Definitions only.
+use mathlib.Core.Path.{_≡_}
 use mathlib.Core.Bool.{Bool}
 use mathlib.Core.List.{List, []}
-use Prim.Native.Nat.{ℕ, _+_, _-_}
+use Prim.Native.Nat.{ℕ, _+_, _-_, _<_}
 use lib.ListN.{getD, set, replicate}
 use lib.Ieee.{Float, nan}
 use Rattle.loops.specs.Loop.{pick, ranged, Flow, on, out, searched}
@@ -110,15 +111,15 @@ backBody n s i x = backRow n s (n - 1 - i) x
 abbrev pub backSubstitution : ℕ → System → List Float
 backSubstitution n s = ranged (backBody n s) 0 n (replicate n (bits 0))
 
--- the answer of `solve_square`: the solution, or that a column had no pivot (`None`)
+-- the answer of `solve_square`: the solution, or the column that had no pivot (`None`); 02, A3: "say the column, from 0, at which they did"
 pub data Solved : Type 0 where
   solution : List Float → Solved
-  singular : Solved
+  singular : ℕ → Solved
 
 -- one column of `solve_square`: the only place where it gives up
 abbrev pub column : ℕ → Float → Float → ℕ → System → Flow System Solved
 column n tol scale col s =
-    pick (givesUp (cell (swappedOf n col s .rows) col col) tol scale) (out singular) (on (eliminatedOf n col (swappedOf n col s)))
+    pick (givesUp (cell (swappedOf n col s .rows) col col) tol scale) (out (singular col)) (on (eliminatedOf n col (swappedOf n col s)))
 
 -- the columns from col on, then back substitution
 abbrev pub solving : ℕ → Float → Float → ℕ → System → Solved
@@ -131,13 +132,13 @@ solveOf n m b tol = solving n tol (sumOfMagnitudes n m) 0 (system m b)
 -- the answer for three unknowns, the solution's entries by name
 abbrev pub answer3 : Solved → Solved3
 answer3 (solution x) = solved3.Solution (record { x0 = getD x 0 nan; x1 = getD x 1 nan; x2 = getD x 2 nan })
-answer3 singular = solved3.Singular
+answer3 (singular col) = solved3.Singular col
 
 -- the same for four unknowns
 abbrev pub answer4 : Solved → Solved4
 answer4 (solution x) =
     solved4.Solution (record { x0 = getD x 0 nan; x1 = getD x 1 nan; x2 = getD x 2 nan; x3 = getD x 3 nan })
-answer4 singular = solved4.Singular
+answer4 (singular col) = solved4.Singular col
 
 -- `solve_3x3`
 unfoldable pub solve3Of : List (List Float) → List Float → Float → Solved3
@@ -146,3 +147,13 @@ solve3Of m b tol = answer3 (solveOf 3 m b tol)
 -- `solve_4x4`
 unfoldable pub solve4Of : List (List Float) → List Float → Float → Solved4
 solve4Of m b tol = answer4 (solveOf 4 m b tol)
+
+-- the contract of `solve_3x3`: the answer, and that the column at which it gives up is one of the matrix
+pub record Solve3Promise (m : List (List Float)) (b : List Float) (tol : Float) (r : Solved3) : Type 0 where
+  pub answer : r ≡ solve3Of m b tol
+  pub column : (col : ℕ) → r ≡ solved3.Singular col → col < 3
+
+-- that of `solve_4x4`
+pub record Solve4Promise (m : List (List Float)) (b : List Float) (tol : Float) (r : Solved4) : Type 0 where
+  pub answer : r ≡ solve4Of m b tol
+  pub column : (col : ℕ) → r ≡ solved4.Singular col → col < 4

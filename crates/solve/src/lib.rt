@@ -10,7 +10,7 @@ ghost use mathlib.Core.List.{[]};
 ghost use lib.Ieee.{nan};
 ghost use lib.ListN.{length};
 ghost use Prim.Native.Nat.{_<_, _≤_};
-ghost use Rattle.solve.specs.Solve.{solve3Of, solve4Of, magnitudesOf, sumOfMagnitudes, greaterOf, heldOf, pivotOf, swapOf, rowEliminated, system, eliminatedOf, substituted, backSubstitution};
+ghost use Rattle.solve.specs.Solve.{magnitudesOf, sumOfMagnitudes, greaterOf, heldOf, pivotOf, swapOf, rowEliminated, system, eliminatedOf, substituted, backSubstitution, Solve3Promise, Solve4Promise};
 
 // The tolerance of the walk's solves; the solvers take any.
 pub const SOLVER_TOL: f64 = 1e-12;
@@ -30,16 +30,16 @@ pub struct Solution4 {
     pub x3: f64,
 }
 
-// The solution, or that the solver gave up.
+// The solution, or the column, from 0, at which the solver gave up.
 pub enum Solved3 {
     Solution(Solution3),
-    Singular,
+    Singular(u64),
 }
 
-// The solution, or that the solver gave up.
+// The solution, or the column, from 0, at which the solver gave up.
 pub enum Solved4 {
     Solution(Solution4),
-    Singular,
+    Singular(u64),
 }
 
 // The sum, to which the magnitudes of the row's first n entries are added in order.
@@ -219,31 +219,32 @@ fn back3(m: [[f64; 3]; 3], b: [f64; 3]) -> [f64; 3]
     x
 }
 
-// The 3 by 3 system by Gaussian elimination with partial pivoting, or Singular where a pivot is at most tol times the scale.
+// The 3 by 3 system by Gaussian elimination with partial pivoting, or the first column whose pivot is at most tol times the scale; a
+// failure of back substitution there is none.
 // The columns one by one: with each index written out the rows stay in registers.
 pub fn solve_3x3(a: [[f64; 3]; 3], b: [f64; 3], tol: f64) -> Solved3
-    ensures { λ r. ⌜ r ≡ solve3Of a b tol ⌝ }
+    ensures { λ r. ⌜ Solve3Promise a b tol r ⌝ }
 {
     let scale = scale3(a);
     let k0 = pivot3(a, 0);
     let r0 = swap_rows3(a, 0, k0);
     let mut b0 = swap3(b, 0, k0);
     if crate::cramer::gives_up(r0[0][0], tol, scale) {
-        return Solved3::Singular;
+        return Solved3::Singular(0);
     }
     let m0 = eliminate3(r0, &mut b0, 0);
     let k1 = pivot3(m0, 1);
     let r1 = swap_rows3(m0, 1, k1);
     let mut b1 = swap3(b0, 1, k1);
     if crate::cramer::gives_up(r1[1][1], tol, scale) {
-        return Solved3::Singular;
+        return Solved3::Singular(1);
     }
     let m1 = eliminate3(r1, &mut b1, 1);
     let k2 = pivot3(m1, 2);
     let r2 = swap_rows3(m1, 2, k2);
     let mut b2 = swap3(b1, 2, k2);
     if crate::cramer::gives_up(r2[2][2], tol, scale) {
-        return Solved3::Singular;
+        return Solved3::Singular(2);
     }
     let m2 = eliminate3(r2, &mut b2, 2);
     let x = back3(m2, b2);
@@ -376,35 +377,35 @@ fn back4(m: [[f64; 4]; 4], b: [f64; 4]) -> [f64; 4]
 }
 
 pub fn solve_4x4(a: [[f64; 4]; 4], b: [f64; 4], tol: f64) -> Solved4
-    ensures { λ r. ⌜ r ≡ solve4Of a b tol ⌝ }
+    ensures { λ r. ⌜ Solve4Promise a b tol r ⌝ }
 {
     let scale = scale4(a);
     let k0 = pivot4(a, 0);
     let r0 = swap_rows4(a, 0, k0);
     let mut b0 = swap4(b, 0, k0);
     if crate::cramer::gives_up(r0[0][0], tol, scale) {
-        return Solved4::Singular;
+        return Solved4::Singular(0);
     }
     let m0 = eliminate4(r0, &mut b0, 0);
     let k1 = pivot4(m0, 1);
     let r1 = swap_rows4(m0, 1, k1);
     let mut b1 = swap4(b0, 1, k1);
     if crate::cramer::gives_up(r1[1][1], tol, scale) {
-        return Solved4::Singular;
+        return Solved4::Singular(1);
     }
     let m1 = eliminate4(r1, &mut b1, 1);
     let k2 = pivot4(m1, 2);
     let r2 = swap_rows4(m1, 2, k2);
     let mut b2 = swap4(b1, 2, k2);
     if crate::cramer::gives_up(r2[2][2], tol, scale) {
-        return Solved4::Singular;
+        return Solved4::Singular(2);
     }
     let m2 = eliminate4(r2, &mut b2, 2);
     let k3 = pivot4(m2, 3);
     let r3 = swap_rows4(m2, 3, k3);
     let mut b3 = swap4(b2, 3, k3);
     if crate::cramer::gives_up(r3[3][3], tol, scale) {
-        return Solved4::Singular;
+        return Solved4::Singular(3);
     }
     let m3 = eliminate4(r3, &mut b3, 3);
     let x = back4(m3, b3);

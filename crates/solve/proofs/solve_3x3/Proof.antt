@@ -9,6 +9,7 @@ use borrow.Author.Needs.{needs}
 use Rattle.loops.proofs.Loop.{searched-done}
 use Rattle.solve.specs.Solve.{system, solving, solveOf, solve3Of, answer3, solution}
 use Rattle.solve.proofs.Laws.{starts, goes-on, leaves}
+use Rattle.solve.proofs.Columns.{promised3}
 use Rattle.solve.proofs.solve_3x3.Statement.{statement}
 use Rattle.solve.proofs.solve_3x3.Tie as tie
 
@@ -136,8 +137,8 @@ returns c =
     let g = c .before in
     let s = g .before .before in
     let p = s .before .before in
-    ap answer3 (leaves 3 _ _ 0 _ _ (lit< tt) (column0 (p .before)) (p .pivot3 .ensures .0) (s .before .swap-rows3 .ensures)
-    (s .swap3 .ensures) (g .gives-up .ensures) (c .if1 .taken))
+    promised3 _ _ _ (ap answer3 (leaves 3 _ _ 0 _ _ (lit< tt) (column0 (p .before)) (p .pivot3 .ensures .0) (s .before .swap-rows3 .ensures)
+    (s .swap3 .ensures) (g .gives-up .ensures) (c .if1 .taken)))
 
 returns-2 : tie.Need-returns-2
 unfolding solve3Of
@@ -145,8 +146,8 @@ returns-2 c =
     let g = c .before in
     let s = g .before .before in
     let p = s .before .before in
-    ap answer3 (leaves 3 _ _ 1 _ _ (lit< tt) (column1 (p .before)) (p .pivot32 .ensures .0) (s .before .swap-rows32 .ensures)
-    (s .swap32 .ensures) (g .gives-up2 .ensures) (c .if2 .taken))
+    promised3 _ _ _ (ap answer3 (leaves 3 _ _ 1 _ _ (lit< tt) (column1 (p .before)) (p .pivot32 .ensures .0) (s .before .swap-rows32 .ensures)
+    (s .swap32 .ensures) (g .gives-up2 .ensures) (c .if2 .taken)))
 
 returns-3 : tie.Need-returns-3
 unfolding solve3Of
@@ -154,12 +155,12 @@ returns-3 c =
     let g = c .before in
     let s = g .before .before in
     let p = s .before .before in
-    ap answer3 (leaves 3 _ _ 2 _ _ (lit< tt) (column2 (p .before)) (p .pivot33 .ensures .0) (s .before .swap-rows33 .ensures)
-    (s .swap33 .ensures) (g .gives-up3 .ensures) (c .if3 .taken))
+    promised3 _ _ _ (ap answer3 (leaves 3 _ _ 2 _ _ (lit< tt) (column2 (p .before)) (p .pivot33 .ensures .0) (s .before .swap-rows33 .ensures)
+    (s .swap33 .ensures) (g .gives-up3 .ensures) (c .if3 .taken)))
 
 returns-4 : tie.Need-returns-4
 unfolding solve3Of
-returns-4 c = ap answer3 (ap solution (c .back3 .ensures) ∙ searched-done _ _ 3 3 (lit≤ tt) (column3 (c .before)))
+returns-4 c = promised3 _ _ _ (ap answer3 (ap solution (c .back3 .ensures) ∙ searched-done _ _ 3 3 (lit≤ tt) (column3 (c .before))))
 
 pub solve-3x3-spec : {M : Type 1} → statement M
 solve-3x3-spec =

@@ -9,6 +9,7 @@ use borrow.Author.Needs.{needs}
 use Rattle.loops.proofs.Loop.{searched-done}
 use Rattle.solve.specs.Solve.{system, solving, solveOf, solve4Of, answer4, solution}
 use Rattle.solve.proofs.Laws.{starts, goes-on, leaves}
+use Rattle.solve.proofs.Columns.{promised4}
 use Rattle.solve.proofs.solve_4x4.Statement.{statement}
 use Rattle.solve.proofs.solve_4x4.Tie as tie
 
@@ -171,8 +172,8 @@ returns c =
     let g = c .before in
     let s = g .before .before in
     let p = s .before .before in
-    ap answer4 (leaves 4 _ _ 0 _ _ (lit< tt) (column0 (p .before)) (p .pivot4 .ensures .0) (s .before .swap-rows4 .ensures)
-    (s .swap4 .ensures) (g .gives-up .ensures) (c .if1 .taken))
+    promised4 _ _ _ (ap answer4 (leaves 4 _ _ 0 _ _ (lit< tt) (column0 (p .before)) (p .pivot4 .ensures .0) (s .before .swap-rows4 .ensures)
+    (s .swap4 .ensures) (g .gives-up .ensures) (c .if1 .taken)))
 
 returns-2 : tie.Need-returns-2
 unfolding solve4Of
@@ -180,8 +181,8 @@ returns-2 c =
     let g = c .before in
     let s = g .before .before in
     let p = s .before .before in
-    ap answer4 (leaves 4 _ _ 1 _ _ (lit< tt) (column1 (p .before)) (p .pivot42 .ensures .0) (s .before .swap-rows42 .ensures)
-    (s .swap42 .ensures) (g .gives-up2 .ensures) (c .if2 .taken))
+    promised4 _ _ _ (ap answer4 (leaves 4 _ _ 1 _ _ (lit< tt) (column1 (p .before)) (p .pivot42 .ensures .0) (s .before .swap-rows42 .ensures)
+    (s .swap42 .ensures) (g .gives-up2 .ensures) (c .if2 .taken)))
 
 returns-3 : tie.Need-returns-3
 unfolding solve4Of
@@ -189,8 +190,8 @@ returns-3 c =
     let g = c .before in
     let s = g .before .before in
     let p = s .before .before in
-    ap answer4 (leaves 4 _ _ 2 _ _ (lit< tt) (column2 (p .before)) (p .pivot43 .ensures .0) (s .before .swap-rows43 .ensures)
-    (s .swap43 .ensures) (g .gives-up3 .ensures) (c .if3 .taken))
+    promised4 _ _ _ (ap answer4 (leaves 4 _ _ 2 _ _ (lit< tt) (column2 (p .before)) (p .pivot43 .ensures .0) (s .before .swap-rows43 .ensures)
+    (s .swap43 .ensures) (g .gives-up3 .ensures) (c .if3 .taken)))
 
 returns-4 : tie.Need-returns-4
 unfolding solve4Of
@@ -198,12 +199,12 @@ returns-4 c =
     let g = c .before in
     let s = g .before .before in
     let p = s .before .before in
-    ap answer4 (leaves 4 _ _ 3 _ _ (lit< tt) (column3 (p .before)) (p .pivot44 .ensures .0) (s .before .swap-rows44 .ensures)
-    (s .swap44 .ensures) (g .gives-up4 .ensures) (c .if4 .taken))
+    promised4 _ _ _ (ap answer4 (leaves 4 _ _ 3 _ _ (lit< tt) (column3 (p .before)) (p .pivot44 .ensures .0) (s .before .swap-rows44 .ensures)
+    (s .swap44 .ensures) (g .gives-up4 .ensures) (c .if4 .taken)))
 
 returns-5 : tie.Need-returns-5
 unfolding solve4Of
-returns-5 c = ap answer4 (ap solution (c .back4 .ensures) ∙ searched-done _ _ 4 4 (lit≤ tt) (column4 (c .before)))
+returns-5 c = promised4 _ _ _ (ap answer4 (ap solution (c .back4 .ensures) ∙ searched-done _ _ 4 4 (lit≤ tt) (column4 (c .before))))
 
 pub solve-4x4-spec : {M : Type 1} → statement M
 solve-4x4-spec =
