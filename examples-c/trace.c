@@ -15,9 +15,12 @@ int main(void) {
     uint64_t word = geomcore_trace(job, bytes, buffer, ROOM);
     unsigned refused = word & 255, code = word >> 8 & 255, start = word >> 16 & 65535;
     uint64_t count = word >> 32;
-    if (refused == 21 || refused == 9) { /* no meeting: the byte above the number is the Newton round */
-        const char *advice = refused == 21 ? "the surfaces are as good as parallel there: take another pair" : "take another guess";
-        printf("refused %u in round %u: %s\n", refused, code, advice);
+    if (refused == 21) { /* no meeting: the bytes above the number are the Newton round and the solve's column, a coordinate */
+        printf("refused 21 in round %u at %c: the surfaces are as good as parallel there: take another pair\n", code, "xyz"[start]);
+        return 0;
+    }
+    if (refused == 9) { /* no meeting: the byte above the number is the Newton round */
+        printf("refused 9 in round %u: take another guess\n", code);
         return 0;
     }
     if (refused) {

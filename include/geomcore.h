@@ -71,14 +71,18 @@ uint64_t geomcore_point(const uint8_t *surface, size_t bytes, double u, double v
  * points. Seven numbers a point stand first (x, y, z, u, v on A, u, v on B), then zeros up to 7 (2 cap + 1);
  * refusals 9, 21, 10 and 11 leave nothing but zeros there, the others write nothing.
  * The guess leads to no meeting: 9 or 21 in the low byte, and in the byte above it (word >> 8 & 255) the Newton round, from 0, in which
- * the meeting gave up.
+ * the meeting gave up; beside 21, in the two bytes above that (word >> 16 & 65535), the column, from 0, at which the solve gave up.
  *   21: a solve gave up, in a round of 0 to 31. Where that round stood the two surfaces are as good as parallel, or one has no normal
  *       there (a pole, an apex), or a radius near the limit of 2^20 makes them look so. Round 0 stands at the guess, drawn into the
  *       windows. Another pair of surfaces is needed; where they bend, a guess elsewhere may do.
+ *       The column is a coordinate, 0, 1, 2 for x, y, z: the first that the directions of the two surfaces there, u and v of each, do
+ *       not reach by themselves. 0: none has a part along x; 1: their parts along y follow from those along x; 2: those along z follow
+ *       from x and y. A normal that both surfaces share has its last part, in this order, along that coordinate: two level planes, one
+ *       above the other, give 2.
  *   9:  every other failed meeting. 0 to 31: in that round no trial came nearer; 32: all rounds came nearer, none near enough. Another
  *       guess is needed; none will do where the surfaces do not meet inside their windows.
  * Proved: where the low byte is 0 the line in the buffer passes the check under the job, with that count, start and code; where it is 9 or
- * 21, the meeting of the job's guess gave that number and round. */
+ * 21, the meeting of the job's guess gave that number, round and column. */
 uint64_t geomcore_trace(const uint8_t *job, size_t bytes, double *buffer, size_t lent);
 
 /* Whether a trace of count points, seven numbers each (x, y, z, u, v on A, u, v on B), with its start's index and closing code, passes the

@@ -71,8 +71,8 @@ fn solvers(rounds: u32) {
             let (b, tol) = (&s[n * n..], s[n * n + n]);
             match n {
                 2 => first(solve_2x2(rows(s), array(b), tol)),
-                3 => first(solve_3x3(rows(s), array(b), tol)),
-                _ => first(solve_4x4(rows(s), array(b), tol)),
+                3 => first(solve_3x3(rows(s), array(b), tol, &mut 0)),
+                _ => first(solve_4x4(rows(s), array(b), tol, &mut 0)),
             }
         };
         line(

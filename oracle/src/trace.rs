@@ -30,7 +30,7 @@ fn refusal(job: &Job, lent: usize) -> u64 {
     0
 }
 
-/// The line, or the word of 9 or 21 with its round, of 10 or 11.
+/// The line, or the word of 9 or 21 with its round and column, of 10 or 11.
 fn walk(job: &Job, chords: Chords) -> Result<Line, u64> {
     let (a, b, tol) = (job.a.patch(), job.b.patch(), job.tolerance());
     let mut mark = Mark::default();
@@ -52,7 +52,7 @@ pub(crate) fn unpacked(word: u64) -> Option<(u64, u64, u64)> {
     (word & 0xff == 0).then_some((word >> 32, word >> 16 & 0xffff, word >> 8 & 0xff))
 }
 
-/// The word with 9 for 9 and 21 and no round: "against the Rust both count as its one \"no meeting\"".
+/// The word with 9 for 9 and 21, no round and no column: "against the Rust both count as its one \"no meeting\"".
 pub(crate) fn as_the_rust(word: u64) -> u64 {
     match word & 0xff {
         9 | 21 => 9,

@@ -64,12 +64,16 @@ pub const JOB_BYTES: usize = 347;
 pub const SURFACE_A: usize = 5;
 pub const SURFACE_B: usize = 151;
 
-/// Why a call was refused: the number, the index of the point that 13 to 16 name, and the Newton round, from 0, in which a meeting that
-/// 9 or 21 refuses gave up (0 for the others).
+/// Why a call was refused: the number, the index of the point that 13 to 16 name, the Newton round, from 0, in which a meeting that 9 or
+/// 21 refuses gave up, and the column, from 0, at which the solve of 21 did (0 for the others).
 ///
 /// 21: a solve gave up, in a round of 0 to 31. Where that round stood the two surfaces are as good as parallel, or one has no normal there
 /// (a pole, an apex), or a radius near the limit of 2^20 makes them look so; round 0 stands at the guess, drawn into the windows. Another
 /// pair of surfaces is needed; where they bend, a guess elsewhere may do.
+///
+/// Its column is a coordinate, 0, 1, 2 for x, y, z: the first that the directions of the two surfaces there, u and v of each, do not reach
+/// by themselves. 0: none has a part along x; 1: their parts along y follow from those along x; 2: those along z follow from x and y. A
+/// normal that both surfaces share has its last part, in this order, along that coordinate: two level planes, one above the other, give 2.
 ///
 /// 9: every other failed meeting. 0 to 31: in that round no trial came nearer; 32: all rounds came nearer, none near enough. Another guess
 /// is needed; none will do where the surfaces do not meet inside their windows.
@@ -78,6 +82,7 @@ pub struct Refusal {
     pub number: u8,
     pub index: u32,
     pub round: u8,
+    pub column: u8,
 }
 
 impl Refusal {
@@ -89,6 +94,7 @@ impl Refusal {
                 number,
                 index: (word >> 32) as u32,
                 round: (word >> 8) as u8,
+                column: (word >> 16) as u8,
             }),
         }
     }
@@ -97,7 +103,12 @@ impl Refusal {
 impl std::fmt::Display for Refusal {
     fn fmt(&self, f: &mut std::fmt::Formatter<'_>) -> std::fmt::Result {
         match self.number {
-            9 | 21 => write!(f, "refused {} in round {}", self.number, self.round),
+            9 => write!(f, "refused 9 in round {}", self.round),
+            21 => write!(
+                f,
+                "refused 21 in round {} at column {}",
+                self.round, self.column
+            ),
             13..=16 => write!(f, "refused {} at point {}", self.number, self.index),
             _ => write!(f, "refused {}", self.number),
         }
@@ -189,7 +200,7 @@ pub const fn room(cap: u16) -> usize {
 }
 
 /// Walks the line that a job file asks for over the lent numbers. Proved: a line that it gives passes `check` under the same job; 9 or 21
-/// with a round is what the meeting of the job's guess gave.
+/// with its round and column is what the meeting of the job's guess gave.
 pub fn trace(job: &[u8], buffer: &mut [f64]) -> Result<Line, Refusal> {
     // SAFETY: each pointer comes with the length of what it was taken from; the callee keeps neither and writes `buffer` alone.
     let word = guarded(|| unsafe {

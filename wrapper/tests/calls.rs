@@ -172,7 +172,7 @@ fn file_of_example_10() {
     assert_eq!(geomcore::check(&job, &read, line), Ok(()));
 }
 
-/// Number and round of a guess that leads to no meeting, and the zeros that both leave.
+/// Number, round and column of a guess that leads to no meeting, and the zeros that both leave.
 #[test]
 fn refused_without_a_meeting() {
     let numbers = geomcore::SURFACE_B + 2;
@@ -185,7 +185,8 @@ fn refused_without_a_meeting() {
     parallel[numbers + 16..numbers + 24].copy_from_slice(&1f64.to_be_bytes());
     let mut far = example();
     far[numbers..numbers + 8].copy_from_slice(&3f64.to_be_bytes());
-    for (job, number, round) in [(parallel, 21, 0), (far, 9, 1)] {
+    let (at, after) = ("refused 21 in round 0 at column 2", "refused 9 in round 1");
+    for (job, number, round, column, text) in [(parallel, 21, 0, 2, at), (far, 9, 1, 0, after)] {
         let mut buffer = vec![0.5; geomcore::room(500) + 1];
         let refused = geomcore::trace(&job, &mut buffer).unwrap_err();
         assert_eq!(
@@ -193,13 +194,11 @@ fn refused_without_a_meeting() {
             geomcore::Refusal {
                 number,
                 index: 0,
-                round
+                round,
+                column
             }
         );
-        assert_eq!(
-            refused.to_string(),
-            format!("refused {number} in round {round}")
-        );
+        assert_eq!(refused.to_string(), text);
         let (zeros, rest) = buffer.split_at(geomcore::room(500));
         assert!(zeros.iter().all(|x| x.to_bits() == 0) && rest == [0.5]);
     }

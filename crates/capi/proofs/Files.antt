@@ -59,7 +59,7 @@ module _ {file : List ℕ} {before after : List Float} {r : Traced} (p : ReadPro
   pub read-bounded : Bounded r
   read-bounded =
       let h = read-claim version1 width1 file before in
-      rw (p .answer) (record { count = omega (arith, h .0); start = omega (arith, h .1); closing = omega (arith, h .2); round = omega (arith, h .3) })
+      rw (p .answer) (record { count = omega (arith, h .0); start = omega (arith, h .1); closing = omega (arith, h .2); round = omega (arith, h .3); column = omega (arith, h .4) })
 
   pub read-word : {w : ℕ} → w ≡ tracedWord r → ReadWord file before after w
   read-word {w} e =

@@ -7,8 +7,8 @@ use native.Mathlib.Omega.{arith}
 use lib.Ieee.{Float}
 use Rattle.refusal.specs.declared.Refusal.{Refusal}
 use Rattle.refusal.specs.declared.Refusal.the-variants as variant
-use Rattle.refusal.specs.Refusal.{numberOf, indexOf, roundOf}
-use Rattle.refusal.proofs.Laws.{number-positive, number-small, Roundless, which, told-unmet, told-singular}
+use Rattle.refusal.specs.Refusal.{numberOf, indexOf, roundOf, columnOf}
+use Rattle.refusal.proofs.Laws.{number-positive, number-small, Elsewhere, which, told-unmet, told-singular}
 use Rattle.geometry.specs.declared.tolerance.Tolerance.{Tolerance}
 use Rattle.patch.specs.declared.patch.Patch.{Patch}
 use Rattle.patch.specs.declared.patch.Parameters.{Parameters}
@@ -27,9 +27,9 @@ use Rattle.job.specs.declared.file.JobRead.the-variants.{Whole, Refused}
 use Rattle.job.specs.File.{jobOf}
 use Rattle.job.proofs.Unread.{unread}
 use Rattle.meeting.specs.Newton.{Unmet}
-use Rattle.meeting.proofs.Rounds.{meet-unmet, unmet-round, singular-round}
+use Rattle.meeting.proofs.Rounds.{meet-unmet, unmet-round, singular-bounds}
 use Rattle.passing.specs.Promises.{JobPasses, GuessUnmet, JobUnmet, TracePromise, CheckPromise}
-use Rattle.capi.specs.Answer.{numberIn, closingIn, roundIn, startIn, countIn}
+use Rattle.capi.specs.Answer.{numberIn, closingIn, roundIn, startIn, columnIn, countIn}
 use Rattle.capi.specs.Check.{checkedWord, checkAnswer, CheckWord}
 use Rattle.capi.specs.Trace.{tracedWord, Bounded, traceAnswer, TraceWord}
 
@@ -43,31 +43,35 @@ number-fits r = let h = number-small r in omega (arith, h)
 -- ---- the trace's word
 
 module _ {a b : Patch} {tol : Tolerance} {guess : Parameters} {cap : ℕ} {before after : List Float} where
-  -- 9 and 21 have a round of at most 32, the others none
-  round-fits : (q : Refusal) → TracePromise a b tol guess cap before after (traced.Refused q) → roundOf q < 256
-  round-fits q p =
+  -- 9 and 21 have a round of at most 32, 21 has a column below 3, the others have neither
+  added-fits : (q : Refusal) → TracePromise a b tol guess cap before after (traced.Refused q) → (roundOf q < 256) × (columnOf q < 65536)
+  added-fits q p =
       let rounds = p .rounds (roundOf q) in
-      ⊎-elim (λ (e : q ≡ variant.NoMeeting (roundOf q)). let h = rounds .0 (ap traced.Refused e) in omega (arith, h))
+      ⊎-elim
+      (λ (e : q ≡ variant.NoMeeting (roundOf q)). let h = rounds .0 (ap traced.Refused e) in let z : columnOf q ≡ 0 = ap columnOf e in (omega (arith, h), omega (arith, z)))
       (λ h.
-      ⊎-elim (λ (e : q ≡ variant.Singular (roundOf q)). let k = rounds .1 (ap traced.Refused e) in omega (arith, k)) (λ (e : Roundless q). omega (arith, e .0)) h)
+      ⊎-elim
+      (λ (e : q ≡ variant.Singular (roundOf q) (columnOf q)).
+      let k = rounds .1 (columnOf q) (ap traced.Refused e) in let l = p .columns (roundOf q) (columnOf q) (ap traced.Refused e) in (omega (arith, k), omega (arith, l)))
+      (λ (e : Elsewhere q). (omega (arith, e .0), omega (arith, e .1))) h)
       (which q)
 
   -- what `trace` answers has room in a word
   pub bounded : (r : Traced) → TracePromise a b tol guess cap before after r → Bounded r
-  bounded (traced.Refused q) p = record { count = omega arith; start = omega arith; closing = omega arith; round = round-fits q p }
+  bounded (traced.Refused q) p = record { count = omega arith; start = omega arith; closing = omega arith; round = added-fits q p .0; column = added-fits q p .1 }
   bounded (traced.Line count start closing) p =
       let h = p .passes refl in
       let m = h .most in
       let s = h .among in
       let k = code-small (h .closed) in
-      record { count = omega (arith, m); start = omega (arith, m, s); closing = omega (arith, k); round = omega arith }
+      record { count = omega (arith, m); start = omega (arith, m, s); closing = omega (arith, k); round = omega arith; column = omega arith }
 
 -- so a line has
 pub line-fits : {t : Traced} {count start closing : ℕ} → t ≡ traced.Line count start closing → Bounded t → (count < 4294967296) × ((start < 65536) × (closing < 256))
 line-fits e h = let b = subst Bounded e h in (b .count, (b .start, b .closing))
 
-pub round-told : {t : Traced} {q : Refusal} → t ≡ traced.Refused q → Bounded t → roundOf q < 256
-round-told e h = subst Bounded e h .round
+pub added-told : {t : Traced} {q : Refusal} → t ≡ traced.Refused q → Bounded t → (roundOf q < 256) × (columnOf q < 65536)
+added-told e h = let b = subst Bounded e h in (b .round, b .column)
 
 -- the parts of a line's word
 module _ (code start count : ℕ) (h : code < 256) where
@@ -88,14 +92,21 @@ module _ (code start count : ℕ) (h : code < 256) where
 -- the parts of a refusal's word
 refused-number : (q : Refusal) → numberIn (tracedWord (traced.Refused q)) ≡ numberOf q
 unfolding tracedWord
-refused-number q = let h = number-small q in let e : (numberOf q + roundOf q * 256) % 256 ≡ numberOf q = omega (arith, h) in e
+refused-number q = let h = number-small q in let e : (numberOf q + roundOf q * 256 + columnOf q * 65536) % 256 ≡ numberOf q = omega (arith, h) in e
 
 refused-round : (q : Refusal) → roundOf q < 256 → roundIn (tracedWord (traced.Refused q)) ≡ roundOf q
 unfolding tracedWord
 refused-round q k =
     let h = number-small q in
-    let e : (numberOf q + roundOf q * 256) / 256 ≡ roundOf q = omega (arith, h) in
-    ap (λ (n : ℕ). n % 256) e ∙ (let f : roundOf q % 256 ≡ roundOf q = omega (arith, k) in f)
+    let e : (numberOf q + roundOf q * 256 + columnOf q * 65536) / 256 ≡ roundOf q + columnOf q * 256 = omega (arith, h) in
+    ap (λ (n : ℕ). n % 256) e ∙ (let f : (roundOf q + columnOf q * 256) % 256 ≡ roundOf q = omega (arith, k) in f)
+
+refused-column : (q : Refusal) → roundOf q < 256 → columnOf q < 65536 → columnIn (tracedWord (traced.Refused q)) ≡ columnOf q
+unfolding tracedWord
+refused-column q k l =
+    let h = number-small q in
+    let e : (numberOf q + roundOf q * 256 + columnOf q * 65536) / 65536 ≡ columnOf q = omega (arith, h, k) in
+    ap (λ (n : ℕ). n % 65536) e ∙ (let f : columnOf q % 65536 ≡ columnOf q = omega (arith, l) in f)
 
 -- a low byte of 0: nothing is refused, and the parts read out of the word are the answer's
 pub parts : (r : Traced) → Bounded r → numberIn (tracedWord r) ≡ 0
@@ -118,19 +129,29 @@ module _ (bytes : List ℕ) (j : Job) (read : jobOf bytes ≡ Whole j) (before a
       let q = parts r (bounded r p) z in
       rw (q .1, q .2, q .3) (record { job = j; read = read; passes = p .passes (q .0); exact = p .exact (q .0) })
 
-  -- a low byte of 9 or 21: the guess is unmet in the round read out of the word
-  told : (refused : ℕ → Refusal) → ((q : Refusal) (i : ℕ) → numberOf q ≡ numberOf (refused i) → q ≡ refused (roundOf q))
+  -- a low byte of 9 or 21: the guess is unmet in the round and at the column read out of the word
+  told : (refused : ℕ → ℕ → Refusal) → ((q : Refusal) (i col : ℕ) → numberOf q ≡ numberOf (refused i col) → q ≡ refused (roundOf q) (columnOf q))
       → (r : Traced) → TracePromise (j .a) (j .b) (j .tol) (j .guess) (j .cap) before after r
-      → ((i : ℕ) → r ≡ traced.Refused (refused i) → GuessUnmet (j .a) (j .b) (j .tol) (j .guess) (j .cap) before (refused i))
-      → numberIn (tracedWord r) ≡ numberOf (refused (roundIn (tracedWord r))) → JobUnmet bytes before (refused (roundIn (tracedWord r)))
+      → ((i col : ℕ) → r ≡ traced.Refused (refused i col) → GuessUnmet (j .a) (j .b) (j .tol) (j .guess) (j .cap) before (refused i col))
+      → numberIn (tracedWord r) ≡ numberOf (refused (roundIn (tracedWord r)) (columnIn (tracedWord r)))
+      → JobUnmet bytes before (refused (roundIn (tracedWord r)) (columnIn (tracedWord r)))
   unfolding tracedWord
   told refused by-number (traced.Refused q) p g z =
-      let e = by-number q _ (sym (refused-number q) ∙ z) in
-      rw (refused-round q (round-fits q p)) (record { job = j; read = read; guess = g (roundOf q) (ap traced.Refused e) })
+      let e = by-number q _ _ (sym (refused-number q) ∙ z) in
+      let h = added-fits q p in
+      rw (refused-round q (h .0), refused-column q (h .0) (h .1)) (record { job = j; read = read; guess = g (roundOf q) (columnOf q) (ap traced.Refused e) })
   told refused by-number (traced.Line count start closing) p g z =
-      let k = number-positive (refused (roundIn (closing * 2 ^ 8 + start * 2 ^ 16 + count * 2 ^ 32))) in
+      let w = closing * 2 ^ 8 + start * 2 ^ 16 + count * 2 ^ 32 in
+      let k = number-positive (refused (roundIn w) (columnIn w)) in
       let e : (closing * 256 + start * 65536 + count * 4294967296) % 256 ≡ 0 = omega arith in
       absurd (let y : ⊥ = omega (arith, k, e, z) in y)
+
+  -- 9 has no column
+  columnless : (r : Traced) → TracePromise (j .a) (j .b) (j .tol) (j .guess) (j .cap) before after r → numberIn (tracedWord r) ≡ 9 → columnIn (tracedWord r) ≡ 0
+  columnless (traced.Refused q) p z =
+      let h = added-fits q p in
+      refused-column q (h .0) (h .1) ∙ ap columnOf (told-unmet q 0 (sym (refused-number q) ∙ z))
+  columnless (traced.Line count start closing) p z = absurd (let e = line-number count start closing in let y : ⊥ = omega (arith, e, z) in y)
 
   pub traced-word : {r : Traced} {w : ℕ} → TracePromise (j .a) (j .b) (j .tol) (j .guess) (j .cap) before after r → w ≡ tracedWord r → TraceWord bytes before after w
   unfolding traceAnswer
@@ -141,19 +162,21 @@ module _ (bytes : List ℕ) (j : Job) (read : jobOf bytes ≡ Whole j) (before a
         passes = rw e (read-back r p);
         unmet = rw e unmet;
         singular = rw e singular;
-        rounds = rw e (λ z. unmet-round _ (why _ (unmet z)), λ z. singular-round _ (why _ (singular z)));
+        rounds = rw e (λ z. unmet-round _ (why _ (unmet z)), λ z. singular-bounds _ _ (why _ (singular z)) .0);
+        columns = rw e (columnless r p, λ z. singular-bounds _ _ (why _ (singular z)) .1);
         handed-on = λ q u.
             let same : u .job ≡ j = ap (jobIn j) (sym (u .read)) ∙ ap (jobIn j) read in
             e ∙ ap tracedWord (p .handed-on q (subst (λ (k : Job). GuessUnmet (k .a) (k .b) (k .tol) (k .guess) (k .cap) before q) same (u .guess)));
       }
     where
       unmet : numberIn (tracedWord r) ≡ numberOf (variant.NoMeeting (roundIn (tracedWord r))) → JobUnmet bytes before (variant.NoMeeting (roundIn (tracedWord r)))
-      unmet = told variant.NoMeeting told-unmet r p (p .unmet)
+      unmet = told (λ i col. variant.NoMeeting i) (λ q i col. told-unmet q i) r p (λ i col. p .unmet i)
 
-      singular : numberIn (tracedWord r) ≡ numberOf (variant.Singular (roundIn (tracedWord r))) → JobUnmet bytes before (variant.Singular (roundIn (tracedWord r)))
+      singular : numberIn (tracedWord r) ≡ numberOf (variant.Singular (roundIn (tracedWord r)) (columnIn (tracedWord r)))
+          → JobUnmet bytes before (variant.Singular (roundIn (tracedWord r)) (columnIn (tracedWord r)))
       singular = told variant.Singular told-singular r p (p .singular)
 
-      why : (q : Refusal) → JobUnmet bytes before q → Unmet q
+      why : (q : Refusal) → JobUnmet bytes before q → Unmet 3 q
       why q u = meet-unmet (u .job .a) (u .job .b) (u .job .guess) (u .job .tol) q (u .guess .meeting)
 
 -- a job that can't be read
@@ -172,6 +195,7 @@ module _ (bytes : List ℕ) {r : Refusal} (e : jobOf bytes ≡ Refused r) where
         unmet = λ z. absurd (omega (arith, n, f, z));
         singular = λ z. absurd (omega (arith, n, f, z));
         rounds = (λ z. absurd (omega (arith, n, f, z)), λ z. absurd (omega (arith, n, f, z)));
+        columns = (λ z. absurd (omega (arith, n, f, z)), λ z. absurd (omega (arith, n, f, z)));
         handed-on = λ q u. absurd (unlike-whole (u .read));
       }
 

@@ -28,6 +28,10 @@ roundIn w = w / 2 ^ 8 % 2 ^ 8
 abbrev pub startIn : ℕ → ℕ
 startIn w = w / 2 ^ 16 % 2 ^ 16
 
+-- the same two bytes of a walk that is refused: the column beside 21
+abbrev pub columnIn : ℕ → ℕ
+columnIn w = w / 2 ^ 16 % 2 ^ 16
+
 -- the four bytes above that: the count of points
 abbrev pub countIn : ℕ → ℕ
 countIn w = w / 2 ^ 32

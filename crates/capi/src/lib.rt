@@ -108,7 +108,8 @@ fn line_word(count: usize, start: usize, code: usize) -> u64
     (code as u64) * 256 + (start as u64) * 65536 + (count as u64) * 4294967296
 }
 
-// The answer's word: the refusal's number and 2^8 times its round, or the line's word. Each part has room in its own place of it.
+// The answer's word: the refusal's number, 2^8 times its round and 2^16 times its column, or the line's word. Each part has room in its
+// own place of it.
 fn traced_word(answer: Traced) -> u64
     requires { ⌜ Bounded answer ⌝ }
     ensures { λ r. ⌜ r ≡ tracedWord answer ⌝ }
@@ -121,13 +122,14 @@ fn traced_word(answer: Traced) -> u64
         } => line_word(count, start, closing),
         Traced::Refused(refusal) => {
             let n = refusal.numbers();
-            n.number + n.round * 256
+            n.number + n.round * 256 + n.column * 65536
         }
     }
 }
 
 // Walks the line that a job file asks for over the lent numbers, which may be any. A low byte of 0 means that the line in the buffer passes
-// the check, with the count, start and code of the word; beside 9 and 21 the byte above it is the Newton round in which the meeting gave up.
+// the check, with the count, start and code of the word; beside 9 and 21 the byte above it is the Newton round in which the meeting gave up,
+// beside 21 the two bytes above that the column at which the solve did.
 #[no_mangle]
 pub extern "C" fn geomcore_trace(job: &[u8], buffer: &mut [f64]) -> u64
     ensures { λ r. ⌜ TraceWord (now (job .entry)) (now (buffer .entry)) (now (buffer .exit)) r ⌝ }

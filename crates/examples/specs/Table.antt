@@ -30,7 +30,7 @@ use Rattle.solve.specs.Cramer.{solve2Of}
 use Rattle.solve.specs.Solve.{solve3Of}
 use Rattle.solve.specs.declared.cramer.Solved2.the-variants as solved2
 use Rattle.solve.specs.declared.Solved3.the-variants as solved3
-use Rattle.groups.specs.Traced.{Outcome, refusalOf, roundOf}
+use Rattle.groups.specs.Traced.{Outcome, refusalOf, roundOf, columnOf}
 use Rattle.walk.specs.Trace.{traceOf}
 
 -- ---- the other numbers of the rows
@@ -153,10 +153,10 @@ pub record Table : Type 0 where
   pub row5 :
       (solve2Of ((two ∷ positiveZero ∷ []) ∷ (positiveZero ∷ four ∷ []) ∷ []) (two ∷ four ∷ []) 1e-12 ≡ solved2.Solution (record { x0 = one; x1 = one }))
       × ((right : List Float) → solve2Of ((one ∷ one ∷ []) ∷ (one ∷ one ∷ []) ∷ []) right 1e-12 ≡ solved2.Singular)
-  -- "Diagonal (1, 1, 4e-12), right side (1, 2, 4e-12): (1, 2, 1). Diagonal (1, 1, 1e-12): gives up."
+  -- "Diagonal (1, 1, 4e-12), right side (1, 2, 4e-12): (1, 2, 1). Diagonal (1, 1, 1e-12): gives up." (02, A3: at column 2)
   pub row6 :
       (solve3Of (diagonal one one 4e-12) (one ∷ two ∷ 4e-12 ∷ []) 1e-12 ≡ solved3.Solution (record { x0 = one; x1 = two; x2 = one }))
-      × ((right : List Float) → solve3Of (diagonal one one 1e-12) right 1e-12 ≡ solved3.Singular)
+      × ((right : List Float) → solve3Of (diagonal one one 1e-12) right 1e-12 ≡ solved3.Singular 2)
   -- "Windows all 0 to 1, no marks, from 0.5 four times to (1.5, 0.5, 1.5, 0.5): leaves at index 0, bound 1. To (1.5, 0.5, 0.5, -1.5):
   -- index 3, bound 0."
   pub row7 :
@@ -173,10 +173,11 @@ pub record Table : Type 0 where
       × ((p : ℕ → ℕ → Float) (t : Float)
       → crossingOf (confusion20 t) (fourPoints p) 4 (boxAt (bits 0x3fc3_3333_3333_3333) (bits 0x3f84_7ae1_47ae_147b) positiveZero) ≡ crossed.No)
   -- "A and B the same unit-frame plane, windows -1 to 1, no marks, default tolerance, cap 2, 35 numbers lent, guess all 0: 10. B's origin
-  -- moved to z = 1": 02, A2: "the new number, in round 0" (and the 35 numbers are positive zero afterwards)
+  -- moved to z = 1": 02, A2: "the new number, in round 0"; A3: at column 2 (and the 35 numbers are positive zero afterwards)
   pub row9 :
       ((p : ℕ → Float) → (refusalOf (nineOf zeroVector (lent 35 p) .answer) ≡ 10) × (nineOf zeroVector (lent 35 p) .buffer ≡ replicate 35 positiveZero))
       × ((p : ℕ → Float)
       → (refusalOf (nineOf (vectorOf positiveZero positiveZero one) (lent 35 p) .answer) ≡ 21)
       × (roundOf (nineOf (vectorOf positiveZero positiveZero one) (lent 35 p) .answer) ≡ 0)
+      × (columnOf (nineOf (vectorOf positiveZero positiveZero one) (lent 35 p) .answer) ≡ 2)
       × (nineOf (vectorOf positiveZero positiveZero one) (lent 35 p) .buffer ≡ replicate 35 positiveZero))

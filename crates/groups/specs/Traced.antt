@@ -36,6 +36,11 @@ abbrev pub roundOf : Traced → ℕ
 roundOf (Line count start closing) = 0
 roundOf (Refused r) = refusal.roundOf r
 
+-- 02, A3: the column beside 21
+abbrev pub columnOf : Traced → ℕ
+columnOf (Line count start closing) = 0
+columnOf (Refused r) = refusal.columnOf r
+
 -- the closing code
 abbrev pub closingOf : Traced → ℕ
 closingOf (Line count start closing) = closing

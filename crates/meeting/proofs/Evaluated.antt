@@ -63,7 +63,7 @@ pub equal-planes-meet : meetOf (planeAt (bits 0)) (planeAt (bits 0)) origin defa
 unfolding computing
 equal-planes-meet = refl
 
-pub planes-apart-do-not : meetOf (planeAt (bits 0)) (planeAt (bits 0x3ff0_0000_0000_0000)) origin defaultTolerance ≡ Refused (refusal.Singular 0)
+pub planes-apart-do-not : meetOf (planeAt (bits 0)) (planeAt (bits 0x3ff0_0000_0000_0000)) origin defaultTolerance ≡ Refused (refusal.Singular 0 2)
 unfolding computing
 planes-apart-do-not = refl
 

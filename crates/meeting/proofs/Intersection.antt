@@ -111,7 +111,7 @@ module _ (a b : Patch) (target : Target) (confusion : Float) (tight : T (tenth �
   after-correction : (i : ℕ) (s : Residual) → Own s → (r : Correction) → KeptOwn (goingOn (afterSolve a b target confusion i s r))
   unfolding KeptOwn
   after-correction i s o (correction.By d) = after-trials i s o (trialsOf a b target s d) (trials-own s d o)
-  after-correction i s o correction.Singular = tt
+  after-correction i s o (correction.Singular col) = tt
 
   round-good : (i : ℕ) (s : Residual) → Own s → KeptOwn (roundBody a b target confusion i s)
   unfolding newtonRound KeptOwn

@@ -99,7 +99,7 @@ minus f = neg (f .x) ∷ neg (f .y) ∷ neg (f .z) ∷ []
 
 -- the Rust's minimum-norm step, `J^T y` with `J J^T y = -f`
 abbrev pub minimumNorm : Columns → Solved3 → Correction
-minimumNorm c solved3.Singular = Singular
+minimumNorm c (solved3.Singular col) = Singular col
 minimumNorm c (solved3.Solution s) =
     let y = vectorOf (s .x0) (s .x1) (s .x2) in
     By (record { u1 = dotOf (c .c0) y; v1 = dotOf (c .c1) y; u2 = dotOf (c .c2) y; v2 = dotOf (c .c3) y })
@@ -110,7 +110,7 @@ freeCorrection c f = minimumNorm c (solve3Of (normalMatrix c) (minus f) solverTo
 
 -- the solution of four unknowns as a correction
 abbrev pub byFour : Solved4 → Correction
-byFour solved4.Singular = Singular
+byFour (solved4.Singular col) = Singular col
 byFour (solved4.Solution d) = By (record { u1 = d .x0; v1 = d .x1; u2 = d .x2; v2 = d .x3 })
 
 -- with the plane: three rows of coordinates, and the columns' products with the normal
@@ -145,7 +145,7 @@ placedOf pin d =
 
 -- the solution of three unknowns as a correction
 abbrev pub byThree : ℕ → Solved3 → Correction
-byThree pin solved3.Singular = Singular
+byThree pin (solved3.Singular col) = Singular col
 byThree pin (solved3.Solution d) = By (placedOf pin d)
 
 -- three columns as a matrix of rows

@@ -16,7 +16,7 @@ use Rattle.patch.specs.declared.patch.Parameters.{Parameters}
 use Rattle.patch.specs.Patch.{insideOf, withinBounds}
 use Rattle.refusal.specs.declared.Refusal.{Refusal}
 use Rattle.refusal.specs.declared.Refusal.the-variants as refusal
-use Rattle.refusal.specs.Refusal.{roundOf}
+use Rattle.refusal.specs.Refusal.{roundOf, columnOf}
 use Rattle.meeting.specs.declared.correction.Target.{Target}
 use Rattle.meeting.specs.declared.correction.Target.the-variants.{Free, Plane, Pin}
 use Rattle.meeting.specs.declared.correction.Residual.{Residual}
@@ -71,10 +71,11 @@ abbrev pub afterTrials : Patch → Patch → Float → ℕ → Residual → Tria
 afterTrials a b confusion i s (trial.Better t) = round.Next t
 afterTrials a b confusion i s trial.Nothing = round.End (lastTest a b confusion i s)
 
--- "A failed solve refuses, even where that last test would pass."; 02, A2: "with 21, in the place of 9, when a solve gave up"
+-- "A failed solve refuses, even where that last test would pass."; 02, A2: "with 21, in the place of 9, when a solve gave up";
+-- A3: the column at which it did is handed on
 abbrev pub afterSolve : Patch → Patch → Target → Float → ℕ → Residual → Correction → Round
 afterSolve a b target confusion i s (correction.By d) = afterTrials a b confusion i s (trialsOf a b target s d)
-afterSolve a b target confusion i s correction.Singular = round.End (Refused (refusal.Singular i))
+afterSolve a b target confusion i s (correction.Singular col) = round.End (Refused (refusal.Singular i col))
 
 -- "accepted at once when gap and plane offset are at most a tenth of confusion; else a solve, and up to 12 trials"
 unfoldable pub newtonRound : Patch → Patch → Target → Float → ℕ → Residual → Round
@@ -118,13 +119,15 @@ meetInPlaneOf a b x origin normal tol = newtonOf a b (Plane origin normal) (with
 unfoldable pub landOf : Patch → Patch → Parameters → ℕ → Float → Tolerance → Met
 landOf a b x pin value tol = newtonOf a b (Pin pin) (withParameter (withinBounds a b x) pin value) (tol .confusion)
 
--- ---- 02, A2: why a meeting fails
+-- ---- 02, A2 and A3: why a meeting fails
 
--- 9, whose round is at most 32, or 21, whose round is at most 31, for a solve belongs to a round
-abbrev pub Unmet : Refusal → Type 0
-Unmet q = ((q ≡ refusal.NoMeeting (roundOf q)) × (roundOf q ≤ mostRounds)) ⊎ ((q ≡ refusal.Singular (roundOf q)) × (roundOf q < mostRounds))
+-- 9, whose round is at most 32, or 21 of a solve of n unknowns, whose round is at most 31, for a solve belongs to a round, and whose column is below n
+abbrev pub Unmet : ℕ → Refusal → Type 0
+Unmet n q =
+    ((q ≡ refusal.NoMeeting (roundOf q)) × (roundOf q ≤ mostRounds))
+    ⊎ ((q ≡ refusal.Singular (roundOf q) (columnOf q)) × (roundOf q < mostRounds) × (columnOf q < n))
 
--- the contract of `meet`, `meet_in_plane` and `land`, whose answer is the one defined
-pub record MetPromise (defined r : Met) : Type 0 where
+-- the contract of `meet` and `land`, which solve for three unknowns, and of `meet_in_plane`, for four; the answer is the one defined
+pub record MetPromise (n : ℕ) (defined r : Met) : Type 0 where
   pub answer : r ≡ defined
-  pub unmet : (q : Refusal) → r ≡ Refused q → Unmet q
+  pub unmet : (q : Refusal) → r ≡ Refused q → Unmet n q

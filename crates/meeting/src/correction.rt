@@ -37,10 +37,10 @@ pub struct Columns {
     pub c3: Vector3D,
 }
 
-// The change of the parameters, or that the solver gave up.
+// The change of the parameters, or the column at which the solver gave up.
 pub enum Correction {
     By(Parameters),
-    Singular,
+    Singular(u64),
 }
 
 // How far p lies off the plane; 0 where there is none.
@@ -116,7 +116,7 @@ fn free_correction(c: Columns, f: Vector3D) -> Correction
     let m = normal_matrix(c);
     let solved = solve::solve_3x3(m, [-f.x, -f.y, -f.z], solve::SOLVER_TOL);
     match solved {
-        Solved3::Singular => Correction::Singular,
+        Solved3::Singular(column) => Correction::Singular(column),
         Solved3::Solution(s) => {
             let y = Vector3D::new(s.x0, s.x1, s.x2);
             let c0 = c.c0;
@@ -149,7 +149,7 @@ fn plane_correction(c: Columns, normal: Vector3D, f: Vector3D, r: f64) -> Correc
     ];
     let solved = solve::solve_4x4(m, [-f.x, -f.y, -f.z, -r], solve::SOLVER_TOL);
     match solved {
-        Solved4::Singular => Correction::Singular,
+        Solved4::Singular(column) => Correction::Singular(column),
         Solved4::Solution(d) => Correction::By(Parameters {
             u1: d.x0,
             v1: d.x1,
@@ -214,7 +214,7 @@ fn pin_correction(c: Columns, pin: usize, f: Vector3D) -> Correction
     let m = [[p.x, q.x, s.x], [p.y, q.y, s.y], [p.z, q.z, s.z]];
     let solved = solve::solve_3x3(m, [-f.x, -f.y, -f.z], solve::SOLVER_TOL);
     match solved {
-        Solved3::Singular => Correction::Singular,
+        Solved3::Singular(column) => Correction::Singular(column),
         Solved3::Solution(d) => Correction::By(placed(pin, d)),
     }
 }

@@ -94,14 +94,18 @@ fn newton_round(
         return Round::End(Met::At(x));
     }
     let correction = newton_correction(a, b, target, s);
-    let Correction::By(d) = correction else {
-        return Round::End(Met::Refused(Refusal::Singular(round)));
-    };
-    let trial = trials(a, b, target, s, d);
-    let Trial::Better(t) = trial else {
-        return Round::End(last_test(a, b, confusion, round, s));
-    };
-    Round::Next(t)
+    match correction {
+        Correction::Singular(column) => {
+            Round::End(Met::Refused(Refusal::Singular { round, column }))
+        }
+        Correction::By(d) => {
+            let trial = trials(a, b, target, s, d);
+            let Trial::Better(t) = trial else {
+                return Round::End(last_test(a, b, confusion, round, s));
+            };
+            Round::Next(t)
+        }
+    }
 }
 
 // The rounds from x, then the last test.
@@ -125,7 +129,7 @@ fn newton(a: Patch, b: Patch, target: Target, x: Parameters, confusion: f64) -> 
 
 // A meeting near x.
 pub fn meet(a: Patch, b: Patch, x: Parameters, tol: Tolerance) -> Met
-    ensures { λ r. ⌜ MetPromise (meetOf a b x tol) r ⌝ }
+    ensures { λ r. ⌜ MetPromise 3 (meetOf a b x tol) r ⌝ }
 {
     newton(a, b, Target::Free, within_bounds(a, b, x), tol.confusion)
 }
@@ -139,7 +143,7 @@ pub fn meet_in_plane(
     normal: Vector3D,
     tol: Tolerance,
 ) -> Met
-    ensures { λ r. ⌜ MetPromise (meetInPlaneOf a b x origin normal tol) r ⌝ }
+    ensures { λ r. ⌜ MetPromise 4 (meetInPlaneOf a b x origin normal tol) r ⌝ }
 {
     newton(
         a,
@@ -152,7 +156,7 @@ pub fn meet_in_plane(
 
 // A meeting near x with the parameter `pin` held at the value.
 pub fn land(a: Patch, b: Patch, x: Parameters, pin: usize, value: f64, tol: Tolerance) -> Met
-    ensures { λ r. ⌜ MetPromise (landOf a b x pin value tol) r ⌝ }
+    ensures { λ r. ⌜ MetPromise 3 (landOf a b x pin value tol) r ⌝ }
 {
     let start = with_parameter(within_bounds(a, b, x), pin, value);
     newton(a, b, Target::Pin(pin), start, tol.confusion)

@@ -1,7 +1,7 @@
 -- The promises of the public calls follow from the equations of what they call.
 use mathlib.Core.Path.{_≡_, refl, ap, sym, _∙_}
 use mathlib.Core.List.{List}
-use Prim.Native.Nat.{ℕ}
+use Prim.Native.Nat.{ℕ, _<_}
 use native.Mathlib.Omega.{arith}
 use lib.Ieee.{Float}
 use Rattle.number.proofs.Binary64.{Binary64}
@@ -11,8 +11,8 @@ use Rattle.refusal.proofs.Laws.{number-positive}
 use Rattle.geometry.specs.declared.tolerance.Tolerance.{Tolerance}
 use Rattle.patch.specs.declared.patch.Patch.{Patch}
 use Rattle.patch.specs.declared.patch.Parameters.{Parameters}
-use Rattle.meeting.specs.Newton.{Unmet}
-use Rattle.meeting.proofs.Rounds.{meet-unmet, unmet-round, singular-round}
+use Rattle.meeting.specs.Newton.{mostRounds, Unmet}
+use Rattle.meeting.proofs.Rounds.{meet-unmet, unmet-round, singular-bounds}
 use Rattle.refusal.specs.declared.Verdict.{Verdict}
 use Rattle.refusal.specs.declared.Verdict.the-variants.{Passed, Refused}
 use Rattle.certificate.specs.Passes.{Passes}
@@ -51,10 +51,10 @@ trace-promised a b tol guess cap before {after} {r} answer buffer =
       checked = λ z. ap refusalOf (passes-checked a b tol after (countOf r) (startOf r) (closingOf r) (passes z));
       exact = λ z. exact-gaps (passes z);
       unmet = λ i e. guess-unmet (refusal.NoMeeting i) (unmet-seeds i) e;
-      singular = λ i e. guess-unmet (refusal.Singular i) (singular-seeds i) e;
+      singular = λ i col e. guess-unmet (refusal.Singular i col) (singular-seeds i col) e;
       handed-on = λ q g. answer ∙ unmet-answer a b tol guess cap before q (g .fit) (g .meeting);
-      rounds = λ i.
-          (λ e. unmet-round (refusal.NoMeeting i) (why (refusal.NoMeeting i) (unmet-seeds i) e), λ e. singular-round i (why (refusal.Singular i) (singular-seeds i) e));
+      rounds = λ i. (λ e. unmet-round (refusal.NoMeeting i) (why (refusal.NoMeeting i) (unmet-seeds i) e), λ col e. bounds i col e .0);
+      columns = λ i col e. bounds i col e .1;
     }
   where
     guess-unmet : (q : Refusal) → Seeds q → r ≡ traced.Refused q → GuessUnmet a b tol guess cap before q
@@ -62,8 +62,11 @@ trace-promised a b tol guess cap before {after} {r} answer buffer =
         let h = answer-unmet a b tol guess cap before q s (sym answer ∙ e) in
         record { fit = h .0; meeting = h .1 }
 
-    why : (q : Refusal) → Seeds q → r ≡ traced.Refused q → Unmet q
+    why : (q : Refusal) → Seeds q → r ≡ traced.Refused q → Unmet 3 q
     why q s e = meet-unmet a b guess tol q (guess-unmet q s e .meeting)
+
+    bounds : (i col : ℕ) → r ≡ traced.Refused (refusal.Singular i col) → (i < mostRounds) × (col < 3)
+    bounds i col e = singular-bounds i col (why (refusal.Singular i col) (singular-seeds i col) e)
 
     passes : trace.refusalOf r ≡ 0 → Passes a b tol after (countOf r) (startOf r) (closingOf r)
     passes = rw (answer, buffer) (trace-passes a b tol guess cap before)

@@ -92,12 +92,14 @@ pub record TracePromise (a b : Patch) (tol : Tolerance) (guess : Parameters) (ca
   pub passes : trace.refusalOf r ≡ 0 → Passes a b tol after (countOf r) (startOf r) (closingOf r)
   pub checked : trace.refusalOf r ≡ 0 → verdict.refusalOf (checkOf a b tol after (countOf r) (startOf r) (closingOf r)) ≡ 0
   pub exact : trace.refusalOf r ≡ 0 → ExactGaps a b tol after (countOf r)
-  -- (02, A2) 9 or 21 is the answer exactly when `meet` of the guess answers so, with its round
+  -- (02, A2, A3) 9 or 21 is the answer exactly when `meet` of the guess answers so, with its round and, beside 21, its column
   pub unmet : (i : ℕ) → r ≡ Refused (refusal.NoMeeting i) → GuessUnmet a b tol guess cap before (refusal.NoMeeting i)
-  pub singular : (i : ℕ) → r ≡ Refused (refusal.Singular i) → GuessUnmet a b tol guess cap before (refusal.Singular i)
+  pub singular : (i col : ℕ) → r ≡ Refused (refusal.Singular i col) → GuessUnmet a b tol guess cap before (refusal.Singular i col)
   pub handed-on : (q : Refusal) → GuessUnmet a b tol guess cap before q → r ≡ Refused q
-  -- which is at most 32 beside 9 and at most 31 beside 21
-  pub rounds : (i : ℕ) → (r ≡ Refused (refusal.NoMeeting i) → i ≤ mostRounds) × (r ≡ Refused (refusal.Singular i) → i < mostRounds)
+  -- the round is at most 32 beside 9 and at most 31 beside 21
+  pub rounds : (i : ℕ) → (r ≡ Refused (refusal.NoMeeting i) → i ≤ mostRounds) × ((col : ℕ) → r ≡ Refused (refusal.Singular i col) → i < mostRounds)
+  -- the column is that of a coordinate: x, y or z
+  pub columns : (i col : ℕ) → r ≡ Refused (refusal.Singular i col) → col < 3
 
 -- the check of the first `count` points of a list
 pub record CheckPromise (a b : Patch) (tol : Tolerance) (l : List Float) (count start closing : ℕ) (r : Verdict) : Type 0 where

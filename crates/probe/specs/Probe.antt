@@ -1,6 +1,6 @@
 -- What a probe answers and writes. Definitions only.
 use mathlib.Core.List.{List, [], _∷_}
-use Prim.Native.Nat.{ℕ, zero, suc, _+_}
+use Prim.Native.Nat.{ℕ, zero, suc, _+_, _*_}
 use lib.Dec.{eqb, ltb}
 use lib.ListN.{length, getD, set}
 use lib.Ieee.{Float, nan}
@@ -46,19 +46,19 @@ written2 solved2.Singular t = probed 0 t
 unfoldable pub probe2Of : List Float → List Float → Probed
 probe2Of s t = orShort 7 2 s t (written2 (solve2Of (matrixFrom 2 2 0 s) (numbersFrom 2 4 s) (getD s 6 nan)) t)
 
--- 1 and the three unknowns, or 0
+-- 1 and the three unknowns, or 2^8 times the column
 abbrev pub written3 : Solved3 → List Float → Probed
 written3 (solved3.Solution x) t = probed 1 (set (set (set t 0 (x .x0)) 1 (x .x1)) 2 (x .x2))
-written3 solved3.Singular t = probed 0 t
+written3 (solved3.Singular col) t = probed (col * 256) t
 
 -- `solve_3x3`, likewise
 unfoldable pub probe3Of : List Float → List Float → Probed
 probe3Of s t = orShort 13 3 s t (written3 (solve3Of (matrixFrom 3 3 0 s) (numbersFrom 3 9 s) (getD s 12 nan)) t)
 
--- 1 and the four unknowns, or 0
+-- 1 and the four unknowns, or 2^8 times the column
 abbrev pub written4 : Solved4 → List Float → Probed
 written4 (solved4.Solution x) t = probed 1 (set (set (set (set t 0 (x .x0)) 1 (x .x1)) 2 (x .x2)) 3 (x .x3))
-written4 solved4.Singular t = probed 0 t
+written4 (solved4.Singular col) t = probed (col * 256) t
 
 -- `solve_4x4`, likewise
 unfoldable pub probe4Of : List Float → List Float → Probed

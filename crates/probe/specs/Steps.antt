@@ -8,7 +8,7 @@ use Rattle.loops.specs.Loop.{pick}
 use Rattle.probe.specs.Probe.{Probed, probed, orShort}
 use Rattle.probe.specs.Call.{pointFrom, vectorFrom, parametersFrom, callFrom, putThree, putParameters}
 use Rattle.probe.specs.declared.call.Call.{Call}
-use Rattle.refusal.specs.Refusal.{numberOf, roundOf}
+use Rattle.refusal.specs.Refusal.{numberOf, roundOf, columnOf}
 use Rattle.tangent.specs.declared.Direction.{Direction}
 use Rattle.tangent.specs.declared.Direction.the-variants as direction
 use Rattle.marching.specs.declared.leaving.Exit.{Exit}
@@ -30,10 +30,10 @@ abbrev pub writtenExit : Exit → List Float → Probed
 writtenExit (exit.At k bound) t = probed k (set t 0 bound)
 writtenExit exit.Nowhere t = probed 4 t
 
--- 1 and the meeting, or 2^8 times the refusal's number and 2^16 times its round
+-- 1 and the meeting, or 2^8 times the refusal's number, 2^16 times its round and 2^24 times its column
 abbrev pub writtenMet : Met → List Float → Probed
 writtenMet (met.At y) t = probed 1 (putParameters t y)
-writtenMet (met.Refused r) t = probed (numberOf r * 256 + roundOf r * 65536) t
+writtenMet (met.Refused r) t = probed (numberOf r * 256 + roundOf r * 65536 + columnOf r * 16777216) t
 
 -- `tangent`
 unfoldable pub probeTangent : Call → List Float → Probed

@@ -1,7 +1,8 @@
 //! Functions that only comparisons with outside programs call, exported to C. A slice passes as a pointer and a length.
 //!
 //! The solvers: the input holds the matrix row by row, the right side and tol; a solution goes to the front of the output.
-//! The answer: 1 solved, 0 gave up, 9 a slice too short. Where it is not 1 the output is as it was.
+//! The answer: 1 solved, 9 a slice too short, else the solver gave up: 2^8 times the column, 0 of two unknowns. Where it is not 1 the
+//! output is as it was.
 mod call;
 pub mod steps;
 pub mod surface;
@@ -71,7 +72,7 @@ fn probe_3x3(input: &[f64], output: &mut [f64]) -> u64
             output[2] = x.x2;
             1
         }
-        solve::Solved3::Singular => 0,
+        solve::Solved3::Singular(column) => column * 256,
     }
 }
 
@@ -106,7 +107,7 @@ fn probe_4x4(input: &[f64], output: &mut [f64]) -> u64
             output[3] = x.x3;
             1
         }
-        solve::Solved4::Singular => 0,
+        solve::Solved4::Singular(column) => column * 256,
     }
 }
 

@@ -63,9 +63,9 @@ fn probe_leaving(c: Call, input: &[f64], output: &mut [f64]) -> u64
     }
 }
 
-// 1 and the meeting, or the refusal: 2^8 times its number and 2^16 times its round.
+// 1 and the meeting, or the refusal: 2^8 times its number, 2^16 times its round and 2^24 times its column.
 fn put_met(met: Met, output: &mut [f64]) -> u64
-    requires { ⌜ (4 ≤ length (now output)) × ((q : Refusal) → met ≡ Refused q → Unmet q) ⌝ }
+    requires { ⌜ (4 ≤ length (now output)) × ((q : Refusal) → met ≡ Refused q → Unmet 4 q) ⌝ }
     ensures { λ r. ⌜ probed r (now (output .exit)) ≡ writtenMet met (now (output .entry)) ⌝ }
 {
     match met {
@@ -75,7 +75,7 @@ fn put_met(met: Met, output: &mut [f64]) -> u64
         }
         Met::Refused(refusal) => {
             let n = refusal.numbers();
-            n.number * 256 + n.round * 65536
+            n.number * 256 + n.round * 65536 + n.column * 16777216
         }
     }
 }

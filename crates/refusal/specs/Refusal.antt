@@ -7,15 +7,19 @@ use Rattle.refusal.specs.declared.Refusal.the-variants.{Claim, NotOwnPoi
 
 -- "A refusal is its number alone"
 abbrev pub alone : ℕ → Numbers
-alone n = record { number = n; index = 0; round = 0 }
+alone n = record { number = n; index = 0; round = 0; column = 0 }
 
 -- "13 to 16 add the index of the point", from 0
 abbrev pub ofPoint : ℕ → ℕ → Numbers
-ofPoint n i = record { number = n; index = i; round = 0 }
+ofPoint n i = record { number = n; index = i; round = 0; column = 0 }
 
 -- 02, A2: "beside 9 or 21 only, in which Newton round, from 0, they gave up"
 abbrev pub inRound : ℕ → ℕ → Numbers
-inRound n i = record { number = n; index = 0; round = i }
+inRound n i = record { number = n; index = 0; round = i; column = 0 }
+
+-- 02, A3: "the column, from 0, at which they did .. beside 21"
+abbrev pub inColumn : ℕ → ℕ → ℕ → Numbers
+inColumn n i col = record { number = n; index = 0; round = i; column = col }
 
 -- "Who can cause a refusal", in its order
 abbrev pub numbersOf : Refusal → Numbers
@@ -41,7 +45,7 @@ numbersOf JobFile = alone 19
 -- 02, A1: "New numbers, here and later, join document 01's list"
 numbersOf TraceFile = alone 20
 -- 02, A2: "21, in the place of 9, when a solve gave up"
-numbersOf (Singular i) = inRound 21 i
+numbersOf (Singular i col) = inColumn 21 i col
 
 -- the number
 abbrev pub numberOf : Refusal → ℕ
@@ -54,3 +58,7 @@ indexOf r = numbersOf r .index
 -- the Newton round; 0 for all but 9 and 21
 abbrev pub roundOf : Refusal → ℕ
 roundOf r = numbersOf r .round
+
+-- the column; 0 for all but 21
+abbrev pub columnOf : Refusal → ℕ
+columnOf r = numbersOf r .column

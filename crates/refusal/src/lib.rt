@@ -1,6 +1,6 @@
 //! Why a call is refused: one enum for every call, and document 01's number for each case.
 ghost use mathlib.Core.Path.{_≡_};
-ghost use Rattle.refusal.specs.Refusal.{alone, ofPoint, inRound, numbersOf, numberOf};
+ghost use Rattle.refusal.specs.Refusal.{alone, ofPoint, inRound, inColumn, numbersOf, numberOf};
 
 pub enum Refusal {
     // Of a surface: a number of the frame or a size, a wrong size, a window, a turn mark.
@@ -13,9 +13,9 @@ pub enum Refusal {
     Parameter,
     StepCap,
     Lent,
-    // Of a walk: no meeting, or a solve for it that gave up, each with the Newton round; no direction, too few points.
+    // Of a walk: no meeting, with the Newton round; a solve for it that gave up, with its column too; no direction, too few points.
     NoMeeting(u64),
-    Singular(u64),
+    Singular { round: u64, column: u64 },
     NoDirection,
     TooShort,
     // Of a trace or box handed in; the last four of the trace name the point.
@@ -31,11 +31,12 @@ pub enum Refusal {
     TraceFile,
 }
 
-// A refusal's number, and what some add to it: the index of a point, a Newton round. 0 where it adds none.
+// A refusal's number, and what some add to it: the index of a point, a Newton round, the column of a solve. 0 where it adds none.
 pub struct Numbers {
     pub number: u64,
     pub index: u64,
     pub round: u64,
+    pub column: u64,
 }
 
 // What tests say: all passed, or the first refusal.
@@ -52,6 +53,7 @@ fn alone(number: u64) -> Numbers
         number,
         index: 0,
         round: 0,
+        column: 0,
     }
 }
 
@@ -63,6 +65,7 @@ fn of_point(number: u64, index: u64) -> Numbers
         number,
         index,
         round: 0,
+        column: 0,
     }
 }
 
@@ -74,6 +77,19 @@ fn in_round(number: u64, round: u64) -> Numbers
         number,
         index: 0,
         round,
+        column: 0,
+    }
+}
+
+// One of a solve that gave up at a column, in such a round.
+fn in_column(number: u64, round: u64, column: u64) -> Numbers
+    ensures { λ r. ⌜ r ≡ inColumn number round column ⌝ }
+{
+    Numbers {
+        number,
+        index: 0,
+        round,
+        column,
     }
 }
 
@@ -92,7 +108,7 @@ impl Refusal {
             Refusal::StepCap => alone(7),
             Refusal::Lent => alone(8),
             Refusal::NoMeeting(i) => in_round(9, i),
-            Refusal::Singular(i) => in_round(21, i),
+            Refusal::Singular { round, column } => in_column(21, round, column),
             Refusal::NoDirection => alone(10),
             Refusal::TooShort => alone(11),
             Refusal::Claim => alone(12),

@@ -10,7 +10,9 @@ use Rattle.loops.proofs.Loop.{Kept, searched-keeps-at}
 use Rattle.solve.specs.Cramer.{cell, givesUp}
 use Rattle.solve.specs.Solve.{System, system, sumOfMagnitudes, swappedOf, eliminatedOf, backSubstitution, Solved, solution, singular, column, solveOf}
 use Rattle.solve.specs.Solve.{answer3, answer4, solve3Of, solve4Of, Solve3Promise, Solve4Promise}
+use Rattle.solve.specs.declared.Solution3.{Solution3}
 use Rattle.solve.specs.declared.Solved3.{Solved3}
+use Rattle.solve.specs.declared.Solution4.{Solution4}
 use Rattle.solve.specs.declared.Solved4.{Solved4}
 use Rattle.solve.specs.declared.Solved3.the-variants as solved3
 use Rattle.solve.specs.declared.Solved4.the-variants as solved4
@@ -39,7 +41,7 @@ solve-within n m b tol =
 
 -- ---- three unknowns
 
-abbrev pub Within3 : Solved3 → Type 0
+abbrev Within3 : Solved3 → Type 0
 Within3 (solved3.Solution x) = Unit {0}
 Within3 (solved3.Singular col) = col < 3
 
@@ -48,16 +50,24 @@ within3 (solution x) h = tt
 within3 (singular col) h = h
 
 module _ (m : List (List Float)) (b : List Float) (tol : Float) where
-  pub solve3-within : Within3 (solve3Of m b tol)
+  solve3-within : Within3 (solve3Of m b tol)
   unfolding solve3Of
   solve3-within = within3 (solveOf 3 m b tol) (solve-within 3 m b tol)
+
+  -- whatever holds of a solution and of each column holds of the answer
+  pub solve3-each : (P : Solved3 → Type 0) → ((x : Solution3) → P (solved3.Solution x)) → ((col : ℕ) → col < 3 → P (solved3.Singular col)) → P (solve3Of m b tol)
+  solve3-each P by-solution by-column = go (solve3Of m b tol) solve3-within
+    where
+      go : (r : Solved3) → Within3 r → P r
+      go (solved3.Solution x) h = by-solution x
+      go (solved3.Singular col) h = by-column col h
 
   pub promised3 : {r : Solved3} → r ≡ solve3Of m b tol → Solve3Promise m b tol r
   promised3 e = record { answer = e; column = λ col f. subst Within3 f (rw e solve3-within) }
 
 -- ---- four unknowns
 
-abbrev pub Within4 : Solved4 → Type 0
+abbrev Within4 : Solved4 → Type 0
 Within4 (solved4.Solution x) = Unit {0}
 Within4 (solved4.Singular col) = col < 4
 
@@ -66,9 +76,17 @@ within4 (solution x) h = tt
 within4 (singular col) h = h
 
 module _ (m : List (List Float)) (b : List Float) (tol : Float) where
-  pub solve4-within : Within4 (solve4Of m b tol)
+  solve4-within : Within4 (solve4Of m b tol)
   unfolding solve4Of
   solve4-within = within4 (solveOf 4 m b tol) (solve-within 4 m b tol)
+
+  -- whatever holds of a solution and of each column holds of the answer
+  pub solve4-each : (P : Solved4 → Type 0) → ((x : Solution4) → P (solved4.Solution x)) → ((col : ℕ) → col < 4 → P (solved4.Singular col)) → P (solve4Of m b tol)
+  solve4-each P by-solution by-column = go (solve4Of m b tol) solve4-within
+    where
+      go : (r : Solved4) → Within4 r → P r
+      go (solved4.Solution x) h = by-solution x
+      go (solved4.Singular col) h = by-column col h
 
   pub promised4 : {r : Solved4} → r ≡ solve4Of m b tol → Solve4Promise m b tol r
   promised4 e = record { answer = e; column = λ col f. subst Within4 f (rw e solve4-within) }

@@ -18,7 +18,7 @@ use Rattle.refusal.specs.declared.Verdict.the-variants as verdict
 use Rattle.refusal.proofs.Laws.{number-positive}
 use Rattle.refusal.proofs.Order.{first-each, asked-each, Alone}
 use Rattle.groups.specs.declared.traced.Traced.the-variants.{Line}
-use Rattle.groups.specs.Traced.{Outcome, outcome, refusalOf, countOf, startOf, roundOf, closingOf}
+use Rattle.groups.specs.Traced.{Outcome, outcome, refusalOf, countOf, startOf, roundOf, columnOf, closingOf}
 use Rattle.trace_file.specs.declared.write.Written.the-variants.{Bytes}
 use Rattle.groups.specs.Groups.{mostPoints}
 use Rattle.trace_file.specs.Layout.{numbersPlace, greatestCode, mostWidth}
@@ -145,16 +145,16 @@ read-alone version w s room =
       ),
     )
 
--- what is read has the count, start and code that 20 lets through, and 0 for each where it refuses; it has no round
+-- what is read has the count, start and code that 20 lets through, and 0 for each where it refuses; it has no round and no column
 pub read-claim : (version w : ℕ) (s : List ℕ) (t : List Float)
-    → (let r = readOf version w s t .answer in (countOf r ≤ mostPoints) × (startOf r ≤ mostPoints) × (closingOf r ≤ greatestCode) × (roundOf r ≡ 0))
+    → (let r = readOf version w s t .answer in (countOf r ≤ mostPoints) × (startOf r ≤ mostPoints) × (closingOf r ≤ greatestCode) × (roundOf r ≡ 0) × (columnOf r ≡ 0))
 unfolding readOf
 read-claim version w s t = go (readFitness version w s (length t)) refl (read-alone version w s (length t))
   where
     go : (v : Verdict) → readFitness version w s (length t) ≡ v → Alone v
-        → (let r = afterReading w s t v .answer in (countOf r ≤ mostPoints) × (startOf r ≤ mostPoints) × (closingOf r ≤ greatestCode) × (roundOf r ≡ 0))
-    go verdict.Passed e n = let k = claim-fits (read-fit version w s (length t) e .header .claim) in (k .1, omega (arith, k .1, k .2), k .3, refl)
-    go (verdict.Refused r) e n = (omega arith, omega arith, omega arith, ap (λ (q : Numbers). q .round) n)
+        → (let r = afterReading w s t v .answer in (countOf r ≤ mostPoints) × (startOf r ≤ mostPoints) × (closingOf r ≤ greatestCode) × (roundOf r ≡ 0) × (columnOf r ≡ 0))
+    go verdict.Passed e n = let k = claim-fits (read-fit version w s (length t) e .header .claim) in (k .1, omega (arith, k .1, k .2), k .3, refl, refl)
+    go (verdict.Refused r) e n = (omega arith, omega arith, omega arith, ap (λ (q : Numbers). q .round) n, ap (λ (q : Numbers). q .column) n)
 
 -- what is written has few bytes
 pub write-small : (version w : ℕ) (l : List Float) (count start code : ℕ) (t : List ℕ) → w ≤ mostWidth → bytesOf (writeOf version w l count start code t .answer) ≤ 8388618

@@ -52,8 +52,8 @@ pub record Seeds (q : Refusal) : Type 0 where
 pub unmet-seeds : (i : ℕ) → Seeds (refusal.NoMeeting i)
 unmet-seeds i = record { behind = omega arith; not-ten = λ z. omega (arith, z); not-eleven = λ z. omega (arith, z) }
 
-pub singular-seeds : (i : ℕ) → Seeds (refusal.Singular i)
-singular-seeds i = record { behind = omega arith; not-ten = λ z. omega (arith, z); not-eleven = λ z. omega (arith, z) }
+pub singular-seeds : (i col : ℕ) → Seeds (refusal.Singular i col)
+singular-seeds i col = record { behind = omega arith; not-ten = λ z. omega (arith, z); not-eleven = λ z. omega (arith, z) }
 
 module _ (a b : Patch) (tol : Tolerance) (n : ℕ) (q : Refusal) (s : Seeds q) where
   settled-other : (m : line.Line) → settled (ownRow a) n m .answer ≡ Refused q → ⊥

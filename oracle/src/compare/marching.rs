@@ -515,7 +515,8 @@ impl Timed {
     }
 }
 
-/// The oracle's answer: its word and the numbers written. A failed meeting's word is 2^8 times its number and 2^16 times its round.
+/// The oracle's answer: its word and the numbers written. A failed meeting's word is 2^8 times its number, 2^16 times its round
+/// and 2^24 times its column.
 fn answer(c: &Call, windows: Windows) -> (u64, Vec<f64>) {
     let [p, q, s, t, u, v] = c.rest;
     let mut mark = Mark::default();
@@ -579,10 +580,11 @@ fn same_words(a: &[f64], b: &[f64]) -> bool {
     a.len() == b.len() && a.iter().zip(b).all(|(x, y)| word(*x) == word(*y))
 }
 
-/// How failed meetings were told: 9 and 21 by their rounds.
+/// How failed meetings were told: 9 and 21 by their rounds, 21 by its columns too.
 pub(super) struct Rounds {
     by_9: [u64; 33],
     by_21: [u64; 33],
+    columns: [u64; 4],
     pub(super) differ: u64,
 }
 
@@ -591,18 +593,22 @@ impl Default for Rounds {
         Rounds {
             by_9: [0; 33],
             by_21: [0; 33],
+            columns: [0; 4],
             differ: 0,
         }
     }
 }
 
 impl Rounds {
-    /// A word's number + 2^8 times its round, if it is 9 or 21, and whether the proved code tells it otherwise.
+    /// A word's number + 2^8 times its round + 2^16 times its column, if it is 9 or 21, and whether the proved code tells it otherwise.
     pub(super) fn count(&mut self, word: u64, otherwise: bool) {
         let round = (word >> 8 & 0xff) as usize;
         match word & 0xff {
             9 => self.by_9[round] += 1,
-            21 => self.by_21[round] += 1,
+            21 => {
+                self.by_21[round] += 1;
+                self.columns[(word >> 16) as usize] += 1;
+            }
             _ => {}
         }
         self.differ += u64::from(otherwise);
@@ -615,11 +621,12 @@ impl Rounds {
         );
         let last = |by: &[u64]| by.iter().rposition(|n| *n > 0).unwrap_or(0);
         println!(
-            "{name}, number and round: {} compared, {} differ ({solve} by 21, {} of them in round 0, the last in round {}; {nine} by 9, {} of them in round 0, {} in round 31, {} with all rounds spent)",
+            "{name}, number, round and column: {} compared, {} differ ({solve} by 21, {} of them in round 0, the last in round {}, at columns 0 to 3: {:?}; {nine} by 9, {} of them in round 0, {} in round 31, {} with all rounds spent)",
             nine + solve,
             self.differ,
             self.by_21[0],
             last(&self.by_21),
+            self.columns,
             self.by_9[0],
             self.by_9[31],
             self.by_9[32],
@@ -811,9 +818,9 @@ mod tests {
         }
     }
 
-    /// Number and round of a failed meeting, as `probe` tells them.
-    fn unmet(number: u64, round: u64) -> (u64, Vec<f64>) {
-        ((number << 8) + (round << 16), vec![])
+    /// Number, round and column of a failed meeting, as `probe` tells them.
+    fn unmet(number: u64, round: u64, column: u64) -> (u64, Vec<f64>) {
+        ((number << 8) + (round << 16) + (column << 24), vec![])
     }
 
     #[test]
@@ -839,8 +846,36 @@ mod tests {
             y: z,
             z: x,
         };
-        for (b, expected) in [(parallel, unmet(21, 0)), (upright, unmet(9, 1))] {
+        for (b, expected) in [(parallel, unmet(21, 0, 2)), (upright, unmet(9, 1, 0))] {
             c.b = b;
+            assert_eq!(answer(&c, Windows::Asked), expected);
+            assert_eq!(agrees(&c, &expected), (true, true));
+        }
+    }
+
+    #[test]
+    fn at_which_column_a_solve_gives_up() {
+        let (x, y, z) = (
+            Vector3D::new(1.0, 0.0, 0.0),
+            Vector3D::new(0.0, 1.0, 0.0),
+            Vector3D::new(0.0, 0.0, 1.0),
+        );
+        let plane = [0.5, 0.0, 0.0, 1.0, 0.0, 0.0];
+        // Two parallel planes. Without a plane the column is the coordinate in which they are apart; with one it is v on B; in a landing
+        // it is the third free parameter.
+        for ((x, y, z), step, column) in [
+            ((y, z, x), Step::Meet, 0),
+            ((z, x, y), Step::Meet, 1),
+            ((x, y, z), Step::Meet, 2),
+            ((x, y, z), Step::MeetInPlane, 3),
+            ((x, y, z), Step::Land(0), 2),
+        ] {
+            let mut c = unit_windows(step, plane);
+            let origin = Point3D::new(0.0, 0.0, 0.0);
+            c.a.frame = Frame3D { origin, x, y, z };
+            c.b = c.a;
+            c.b.frame.origin = origin + z;
+            let expected = unmet(21, 0, column);
             assert_eq!(answer(&c, Windows::Asked), expected);
             assert_eq!(agrees(&c, &expected), (true, true));
         }

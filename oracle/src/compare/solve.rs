@@ -28,7 +28,7 @@ const TOLERANCES: [f64; 14] = [
 ];
 
 /// The kinds of system, by name.
-const KINDS: [&str; 15] = [
+const KINDS: [&str; 16] = [
     "uniform",
     "wide range",
     "any bits",
@@ -44,6 +44,7 @@ const KINDS: [&str; 15] = [
     "huge",
     "subnormal",
     "one entry not finite",
+    "a column of those before it",
 ];
 
 /// The matrix row by row, the right side, tol.
@@ -172,6 +173,13 @@ fn matrix(r: &mut Random, n: usize, kind: usize) -> Vec<f64> {
             let at = r.below(n * n);
             m[at] = r.pick(&[f64::NAN, f64::INFINITY, f64::NEG_INFINITY]);
         }
+        15 => {
+            let column = r.below(n);
+            let factors: Vec<f64> = (0..column).map(|_| r.scaled(-3, 3)).collect();
+            for row in m.chunks_mut(n) {
+                row[column] = factors.iter().zip(&*row).map(|(f, x)| f * x).sum();
+            }
+        }
         _ => {}
     }
     m
@@ -203,34 +211,42 @@ fn rows<const N: usize>(input: &[f64]) -> ([[f64; N]; N], [f64; N], f64) {
     (m, b, input[N * N + N])
 }
 
-/// The oracle's answer.
-fn answer(n: usize, input: &[f64]) -> Option<Vec<f64>> {
-    match n {
+/// The oracle's answer, or the column at which it gave up; 0 for two unknowns, which have none.
+fn answer(n: usize, input: &[f64]) -> Result<Vec<f64>, usize> {
+    let mut column = 0;
+    let solution = match n {
         2 => {
             let (m, b, tol) = rows::<2>(input);
             solve_2x2(m, b, tol).map(|x| x.to_vec())
         }
         3 => {
             let (m, b, tol) = rows::<3>(input);
-            solve_3x3(m, b, tol).map(|x| x.to_vec())
+            solve_3x3(m, b, tol, &mut column).map(|x| x.to_vec())
         }
         _ => {
             let (m, b, tol) = rows::<4>(input);
-            solve_4x4(m, b, tol).map(|x| x.to_vec())
+            solve_4x4(m, b, tol, &mut column).map(|x| x.to_vec())
         }
-    }
+    };
+    solution.ok_or(column)
 }
 
-/// Whether the proved code gives this answer, in bits, and leaves the rest of the output alone.
-fn agrees(s: &System, expected: &Option<Vec<f64>>) -> bool {
+/// The answer's word: 1, or 2^8 times the column.
+fn said(answer: &Result<Vec<f64>, usize>) -> u64 {
+    answer.as_ref().map_or_else(|c| (*c as u64) << 8, |_| 1)
+}
+
+/// Whether the proved code gives the Rust's answer, in bits, and leaves the rest of the output alone; and whether its whole word is this.
+fn agrees(s: &System, expected: &Result<Vec<f64>, usize>) -> (bool, bool) {
     let mut output = [UNTOUCHED; 6];
-    let said = probe::solve(s.n, &s.input, &mut output);
+    let ours = probe::solve(s.n, &s.input, &mut output);
     let mut right = [UNTOUCHED; 6];
-    if let Some(x) = expected {
+    if let Ok(x) = expected {
         right[..s.n].copy_from_slice(x);
     }
     let same = output.iter().zip(&right).all(|(a, b)| word(*a) == word(*b));
-    same && said == u64::from(expected.is_some())
+    let rust = same && ours & 0xff == u64::from(expected.is_ok());
+    (rust, ours == said(expected))
 }
 
 /// Slices too short and another number of unknowns are answered 9, and nothing is written.
@@ -261,19 +277,25 @@ pub fn compare(seed: u64, count: u64) -> u64 {
         let mut r = Random::new(seed.wrapping_mul(4).wrapping_add(n as u64));
         let mut solved = [0u64; KINDS.len()];
         let mut gave_up = [0u64; KINDS.len()];
+        let mut columns = [0u64; 4];
         let mut not_finite = 0u64;
-        let mut wrong = 0;
+        let (mut wrong, mut elsewhere) = (0, 0);
         for _ in 0..count {
             let s = system(&mut r, n);
             let expected = answer(n, &s.input);
             match &expected {
-                Some(x) => {
+                Ok(x) => {
                     solved[s.kind] += 1;
                     not_finite += u64::from(x.iter().any(|v| !v.is_finite()));
                 }
-                None => gave_up[s.kind] += 1,
+                Err(column) => {
+                    gave_up[s.kind] += 1;
+                    columns[*column] += 1;
+                }
             }
-            if !agrees(&s, &expected) {
+            let (rust, whole) = agrees(&s, &expected);
+            elsewhere += u64::from(rust && !whole);
+            if !rust {
                 wrong += 1;
                 if wrong <= 3 {
                     println!(
@@ -290,7 +312,15 @@ pub fn compare(seed: u64, count: u64) -> u64 {
         for (k, kind) in KINDS.iter().enumerate() {
             println!("  {kind}: {} solved, {} gave up", solved[k], gave_up[k]);
         }
-        differ += wrong;
+        if n > 2 {
+            let at = &columns[..n];
+            println!(
+                "solve, {n} unknowns, column: {} compared, {elsewhere} differ (given up at 0 to {}: {at:?})",
+                at.iter().sum::<u64>(),
+                n - 1
+            );
+        }
+        differ += wrong + elsewhere;
     }
     differ
 }
@@ -307,11 +337,10 @@ pub fn record(seed: u64, count: u64) -> io::Result<()> {
             for (k, x) in s.input.iter().enumerate() {
                 words[1 + k] = word(*x);
             }
-            if let Some(x) = answer(n, &s.input) {
-                words[22] = 1;
-                for (k, v) in x.iter().enumerate() {
-                    words[23 + k] = word(*v);
-                }
+            let answer = answer(n, &s.input);
+            words[22] = said(&answer);
+            for (k, v) in answer.iter().flatten().enumerate() {
+                words[23 + k] = word(*v);
             }
             for w in words {
                 out.write_all(&w.to_be_bytes())?;

@@ -161,25 +161,28 @@ pub fn alone(seed: u64, count: u64) -> u64 {
     })
 }
 
-/// Ways to end beside the refusals' numbers: 9 with all rounds spent, 21 in a later round than the first, and a line, to which its closing
-/// code is added.
+/// Ways to end beside the refusals' numbers: 9 with all rounds spent, 21 in a later round than the first, 21 in the first at column 0 or 1,
+/// which is added, and a line, to which its closing code is added.
 const SPENT: usize = 22;
 const LATER: usize = 23;
-const LINE: usize = 24;
+const COLUMN: usize = 24;
+const LINE: usize = 26;
 
 /// How many jobs of the fixed list end in each way.
-const WANTED: [usize; 27] = [
-    0, 10, 10, 10, 10, 10, 10, 10, 20, 20, 20, 40, 0, 0, 0, 0, 0, 0, 0, 10, 0, 10, 10, 10, 200, 80,
-    50,
+const WANTED: [usize; 29] = [
+    0, 10, 10, 10, 10, 10, 10, 10, 20, 20, 20, 40, 0, 0, 0, 0, 0, 0, 0, 10, 0, 10, 10, 10, 10, 10,
+    200, 80, 50,
 ];
 
 /// How a job ended.
 fn end(said: u64) -> usize {
-    match (unpacked(said), said & 0xff, said >> 8) {
-        (Some((_, _, code)), _, _) => LINE + code as usize,
-        (None, 9, 32) => SPENT,
-        (None, 21, 1..) => LATER,
-        (None, number, _) => number as usize,
+    let (round, column) = (said >> 8 & 0xff, said >> 16);
+    match (unpacked(said), said & 0xff) {
+        (Some((_, _, code)), _) => LINE + code as usize,
+        (None, 9) if round == 32 => SPENT,
+        (None, 21) if round > 0 => LATER,
+        (None, 21) if column < 2 => COLUMN + column as usize,
+        (None, number) => number as usize,
     }
 }
 
@@ -282,7 +285,7 @@ mod tests {
         };
         assert_eq!(said(&job, 35), 10);
         job.b = plane(1.0, FLAT, [-1.0, 1.0]);
-        assert_eq!(said(&job, 35), 21);
+        assert_eq!(said(&job, 35), 21 + (2 << 16));
     }
 
     #[test]

@@ -1,6 +1,6 @@
 // From geomcore at a20e012915, `src/intersect/marching.rs`, licensed MIT OR Apache-2.0: what one crossing and one trace need.
 // `trace`, `tangent`, `predict`, `meet`, `param_bounds`, `within_bounds`, `leaving` and `land` are carried over unchanged, but for what the
-// scope changes: the window test in `meet` and `land`, and where their loops stand (A2); in `trace` the chord test, the job's cap, the
+// scope changes: the window test in `meet` and `land`, and where their loops and solves stand (A2, A3); in `trace` the chord test, the job's cap, the
 // parameters kept beside each point, what is answered, and the arc tangent. Each changed line says so. Square roots are the hardware's,
 // which round as ours do.
 // `Traced::of` holds the lines of `Traced::follow` that make a trace's boxes, for a trace that is handed in; `crosses`,
@@ -124,28 +124,29 @@ impl Chords {
     }
 }
 
-/// Added by request A2: where the loop of `meet` or `land` stands, so that after a `None` it says why and in which round it gave up. The
-/// Rust's own ways out are as they were.
+/// Added by requests A2 and A3: where the loop of `meet` or `land` and its solve stand, so that after a `None` it says why, in which round
+/// and at which column it gave up. The Rust's own ways out are as they were.
 #[derive(Clone, Copy, Default)]
 pub(crate) struct Mark {
     number: u64,
     round: u64,
+    column: usize,
 }
 
 impl Mark {
-    /// A solve that gives up here is 21.
+    /// A solve that gives up here is 21; it sets the column.
     fn solving(&mut self, round: u64) {
         (self.number, self.round) = (21, round);
     }
 
-    /// A loop that ends here, and then fails the last test, is 9.
+    /// A loop that ends here, and then fails the last test, is 9, which has no column.
     fn ending(&mut self, round: u64) {
-        (self.number, self.round) = (9, round);
+        (self.number, self.round, self.column) = (9, round, 0);
     }
 
-    /// The refusal as the low bytes of the trace's word: number + 2^8 round.
+    /// The refusal as the low bytes of the trace's word: number + 2^8 round + 2^16 column.
     pub(crate) fn word(self) -> u64 {
-        self.number + (self.round << 8)
+        self.number + (self.round << 8) + ((self.column as u64) << 16)
     }
 }
 
@@ -382,14 +383,14 @@ where
                     cols.map(|c| c.z),
                     [cols[0].dot(normal), cols[1].dot(normal), 0.0, 0.0],
                 ];
-                solve_4x4(m, [-f.x, -f.y, -f.z, -r], 1e-12)?
+                solve_4x4(m, [-f.x, -f.y, -f.z, -r], 1e-12, &mut mark.column)? // changed: the mark
             }
             None => {
                 // Minimum-norm step `J^T y` with `J J^T y = -f`.
                 let rows = [cols.map(|c| c.x), cols.map(|c| c.y), cols.map(|c| c.z)];
                 let dot = |p: [f64; 4], q: [f64; 4]| (0..4).map(|k| p[k] * q[k]).sum::<f64>();
                 let m = rows.map(|p| rows.map(|q| dot(p, q)));
-                let y = solve_3x3(m, [-f.x, -f.y, -f.z], 1e-12)?;
+                let y = solve_3x3(m, [-f.x, -f.y, -f.z], 1e-12, &mut mark.column)?; // changed: the mark
                 cols.map(|c| c.dot(Vector3D::new(y[0], y[1], y[2])))
             }
         };
@@ -500,7 +501,7 @@ where
         let (_, [bu, bv]) = b.eval_d1(x[2], x[3]);
         let cols = [au, av, -bu, -bv].map(|c| [c.x, c.y, c.z]);
         let m = std::array::from_fn(|r| free.map(|k| cols[k][r]));
-        let delta = solve_3x3(m, [-f.x, -f.y, -f.z], 1e-12)?;
+        let delta = solve_3x3(m, [-f.x, -f.y, -f.z], 1e-12, &mut mark.column)?; // changed: the mark
         mark.ending(round); // changed: added
         let mut scale = 1.0;
         let mut improved = false;

@@ -1,4 +1,5 @@
-// From geomcore at a20e012915, `src/math/solve.rs`, licensed MIT OR Apache-2.0. Carried over unchanged below this line.
+// From geomcore at a20e012915, `src/math/solve.rs`, licensed MIT OR Apache-2.0. Carried over below this line; unchanged but for where
+// `solve_square` stands (A3). Each changed line says so; the ways out are as they were.
 //! Small iterative solvers: Newton, Brent, and 2x2 to 4x4 linear
 //! systems.
 //!
@@ -50,14 +51,24 @@ pub(crate) fn polish_root(
 
 /// Solve the 3x3 system `a*x = b` by Gaussian elimination with partial
 /// pivoting, or `None` when near-singular.
-pub(crate) fn solve_3x3(a: [[f64; 3]; 3], b: [f64; 3], tol: f64) -> Option<[f64; 3]> {
-    solve_square(a, b, tol)
+pub(crate) fn solve_3x3(
+    a: [[f64; 3]; 3],
+    b: [f64; 3],
+    tol: f64,
+    column: &mut usize, // changed: added
+) -> Option<[f64; 3]> {
+    solve_square(a, b, tol, column) // changed: the column
 }
 
 /// Solve the 4x4 system `a*x = b` by Gaussian elimination with partial
 /// pivoting, or `None` when near-singular.
-pub(crate) fn solve_4x4(a: [[f64; 4]; 4], b: [f64; 4], tol: f64) -> Option<[f64; 4]> {
-    solve_square(a, b, tol)
+pub(crate) fn solve_4x4(
+    a: [[f64; 4]; 4],
+    b: [f64; 4],
+    tol: f64,
+    column: &mut usize, // changed: added
+) -> Option<[f64; 4]> {
+    solve_square(a, b, tol, column) // changed: the column
 }
 
 /// Gaussian elimination with partial pivoting; a pivot below `tol` times
@@ -66,9 +77,11 @@ pub(crate) fn solve_square<const N: usize>(
     mut m: [[f64; N]; N],
     mut b: [f64; N],
     tol: f64,
+    column: &mut usize, // changed: added, where the loop stands
 ) -> Option<[f64; N]> {
     let scale: f64 = m.iter().flatten().map(|v| v.abs()).sum();
     for col in 0..N {
+        *column = col; // changed: added
         let mut pivot = col;
         for row in col + 1..N {
             if m[row][col].abs() > m[pivot][col].abs() {
@@ -113,7 +126,7 @@ pub(crate) fn newton_3d(
     let mut best = norm(f(x));
     for _ in 0..max_iter {
         let fx = f(x);
-        let delta = solve_3x3(jac(x), [-fx[0], -fx[1], -fx[2]], tol)?;
+        let delta = solve_3x3(jac(x), [-fx[0], -fx[1], -fx[2]], tol, &mut 0)?; // changed: the column
         let (mut s0, mut s1, mut s2) = (delta[0], delta[1], delta[2]);
         let mut improved = false;
         for _ in 0..12 {

@@ -9,11 +9,11 @@ normal-matrix-requires c κs = search needs
 solve-3x3-requires : tie.Need-solve-3x3-requires
 solve-3x3-requires c κs = search needs
 
-enum-told : tie.Need-enum-told
-enum-told c = search needs
-
 enum-known-solved : tie.Need-enum-known-solved
 enum-known-solved c = search needs
+
+enum-known-solved-2 : tie.Need-enum-known-solved-2
+enum-known-solved-2 c = search needs
 
 new-requires : tie.Need-new-requires
 new-requires c κs = search needs
@@ -32,7 +32,9 @@ dot-requires-4 c κs = search needs
 
 returns : tie.Need-returns
 unfolding freeCorrection
-returns c = rw (← c .before .before .before .before .before .before .normal-matrix .ensures, ← c .before .before .solve-3x3 .ensures, c .enum-told .given .1)
+returns c =
+    let s = c .before .before .before in
+    rw (← s .before .before .before .before .normal-matrix .ensures, ← s .solve-3x3 .ensures .answer, c .before .solved .given .1)
 
 returns-2 : tie.Need-returns-2
 unfolding freeCorrection
@@ -42,10 +44,10 @@ returns-2 c =
     let e = y .before .before in
     let s = e .before .before in
     rw (c .dot4 .ensures, c .before .dot3 .ensures, d .dot2 .ensures, d .before .dot .ensures, y .new .ensures, ← s .before .before .before .before .normal-matrix .ensures)
-    (rw (← s .solve-3x3 .ensures, e .solved .given .1))
+    (rw (← s .solve-3x3 .ensures .answer, e .solved2 .given .1))
 
 pub free-correction-spec : {M : Type 1} → statement M
 free-correction-spec =
     tie.close
-    (tie.spec normal-matrix-requires solve-3x3-requires enum-told enum-known-solved new-requires dot-requires dot-requires-2 dot-requires-3
+    (tie.spec normal-matrix-requires solve-3x3-requires enum-known-solved enum-known-solved-2 new-requires dot-requires dot-requires-2 dot-requires-3
     dot-requires-4 returns returns-2)

@@ -28,15 +28,8 @@ newton-correction-requires c κs = search needs
 enum-known-correction : tie.Need-enum-known-correction
 enum-known-correction c = search needs
 
-enum-told : tie.Need-enum-told
-enum-told c = search needs
-
-returns-2 : tie.Need-returns-2
-unfolding newtonRound
-returns-2 c =
-    let n = c .before .before in
-    let i = n .before in
-    rw (at-once _ _ _ _ (i .before .near .ensures) (i .if1 .left), ← n .newton-correction .ensures, c .enum-told .given .1)
+enum-known-correction-2 : tie.Need-enum-known-correction-2
+enum-known-correction-2 c = search needs
 
 trials-requires : tie.Need-trials-requires
 trials-requires c κs = search needs
@@ -44,21 +37,29 @@ trials-requires c κs = search needs
 enum-known-trial : tie.Need-enum-known-trial
 enum-known-trial c = search needs
 
-enum-told-2 : tie.Need-enum-told-2
-enum-told-2 c = search needs
+enum-told : tie.Need-enum-told
+enum-told c = search needs
 
 last-test-requires : tie.Need-last-test-requires
 last-test-requires c κs = search needs
 
-returns-3 : tie.Need-returns-3
+returns-2 : tie.Need-returns-2
 unfolding newtonRound
-returns-3 c =
+returns-2 c =
     let t = c .before .before .before in
     let d = t .before .before in
     let n = d .before .before in
     let i = n .before in
-    rw (at-once _ _ _ _ (i .before .near .ensures) (i .if1 .left), ← n .newton-correction .ensures, d .correction .given .1, ← t .trials .ensures)
-    (rw (c .before .enum-told2 .given .1) (ap round.End (c .last-test .ensures)))
+    rw (at-once _ _ _ _ (i .before .near .ensures) (i .if1 .left), ← n .newton-correction .ensures, d .correction2 .given .1, ← t .trials .ensures)
+    (rw (c .before .enum-told .given .1) (ap round.End (c .last-test .ensures)))
+
+returns-3 : tie.Need-returns-3
+unfolding newtonRound
+returns-3 c =
+    let d = c .before in
+    let n = d .before .before in
+    let i = n .before in
+    rw (at-once _ _ _ _ (i .before .near .ensures) (i .if1 .left), ← n .newton-correction .ensures, d .correction .given .1)
 
 returns-4 : tie.Need-returns-4
 unfolding newtonRound
@@ -67,10 +68,10 @@ returns-4 c =
     let d = t .before .before in
     let n = d .before .before in
     let i = n .before in
-    rw (at-once _ _ _ _ (i .before .near .ensures) (i .if1 .left), ← n .newton-correction .ensures, d .correction .given .1, ← t .trials .ensures, c .before .trial .given .1)
+    rw (at-once _ _ _ _ (i .before .near .ensures) (i .if1 .left), ← n .newton-correction .ensures, d .correction2 .given .1, ← t .trials .ensures, c .before .trial .given .1)
 
 pub newton-round-spec : {M : Type 1} → statement M
 newton-round-spec =
     tie.close
-    (tie.spec near-requires returns newton-correction-requires enum-known-correction enum-told returns-2 trials-requires enum-known-trial
-    enum-told-2 last-test-requires returns-3 returns-4)
+    (tie.spec near-requires returns newton-correction-requires enum-known-correction enum-known-correction-2 trials-requires enum-known-trial
+    enum-told last-test-requires returns-2 returns-3 returns-4)

@@ -61,8 +61,8 @@ in-round-requires c κs = search needs
 enum-known-self-2 : tie.Need-enum-known-self-2
 enum-known-self-2 c = search needs
 
-in-round-requires-2 : tie.Need-in-round-requires-2
-in-round-requires-2 c κs = search needs
+in-column-requires : tie.Need-in-column-requires
+in-column-requires c κs = search needs
 
 enum-told-9 : tie.Need-enum-told-9
 enum-told-9 c = search needs
@@ -158,7 +158,7 @@ returns-9 : tie.Need-returns-9
 returns-9 c = c .in-round .ensures ∙ ap numbersOf (sym (c .before .before .self .given .1))
 
 returns-10 : tie.Need-returns-10
-returns-10 c = c .in-round2 .ensures ∙ ap numbersOf (sym (c .before .before .self2 .given .1))
+returns-10 c = c .in-column .ensures ∙ ap numbersOf (sym (c .before .before .self2 .given .1))
 
 returns-11 : tie.Need-returns-11
 returns-11 c = c .alone9 .ensures ∙ ap numbersOf (sym (c .before .enum-told9 .given .1))
@@ -198,7 +198,7 @@ numbers-spec =
     tie.close
     (tie.spec enum-told alone-requires enum-told-2 alone-requires-2 enum-told-3 alone-requires-3 enum-told-4 alone-requires-4 enum-told-5
     alone-requires-5 enum-told-6 alone-requires-6 enum-told-7 alone-requires-7 enum-told-8 alone-requires-8 enum-known-self
-    in-round-requires enum-known-self-2 in-round-requires-2 enum-told-9 alone-requires-9 enum-told-10 alone-requires-10 enum-told-11
+    in-round-requires enum-known-self-2 in-column-requires enum-told-9 alone-requires-9 enum-told-10 alone-requires-10 enum-told-11
     alone-requires-11 enum-known-self-3 of-point-requires enum-known-self-4 of-point-requires-2 enum-known-self-5 of-point-requires-3
     enum-known-self-6 of-point-requires-4 enum-told-12 alone-requires-12 enum-told-13 alone-requires-13 enum-told-14 alone-requires-14
     enum-told-15 alone-requires-15 returns returns-2 returns-3 returns-4 returns-5 returns-6 returns-7 returns-8 returns-9 returns-10
