@@ -89,6 +89,10 @@ module _ (code start count : ℕ) (h : code < 256) where
     count-part : (code * 2 ^ 8 + start * 2 ^ 16 + count * 2 ^ 32) / 2 ^ 32 ≡ count
     count-part = omega (arith, h, k)
 
+line-number : (count start closing : ℕ) → numberIn (tracedWord (traced.Line count start closing)) ≡ 0
+unfolding tracedWord
+line-number count start closing = let e : (closing * 256 + start * 65536 + count * 4294967296) % 256 ≡ 0 = omega arith in e
+
 -- the parts of a refusal's word
 refused-number : (q : Refusal) → numberIn (tracedWord (traced.Refused q)) ≡ numberOf q
 unfolding tracedWord
@@ -135,15 +139,14 @@ module _ (bytes : List ℕ) (j : Job) (read : jobOf bytes ≡ Whole j) (before a
       → ((i col : ℕ) → r ≡ traced.Refused (refused i col) → GuessUnmet (j .a) (j .b) (j .tol) (j .guess) (j .cap) before (refused i col))
       → numberIn (tracedWord r) ≡ numberOf (refused (roundIn (tracedWord r)) (columnIn (tracedWord r)))
       → JobUnmet bytes before (refused (roundIn (tracedWord r)) (columnIn (tracedWord r)))
-  unfolding tracedWord
   told refused by-number (traced.Refused q) p g z =
       let e = by-number q _ _ (sym (refused-number q) ∙ z) in
       let h = added-fits q p in
       rw (refused-round q (h .0), refused-column q (h .0) (h .1)) (record { job = j; read = read; guess = g (roundOf q) (columnOf q) (ap traced.Refused e) })
   told refused by-number (traced.Line count start closing) p g z =
-      let w = closing * 2 ^ 8 + start * 2 ^ 16 + count * 2 ^ 32 in
+      let w = tracedWord (traced.Line count start closing) in
       let k = number-positive (refused (roundIn w) (columnIn w)) in
-      let e : (closing * 256 + start * 65536 + count * 4294967296) % 256 ≡ 0 = omega arith in
+      let e = line-number count start closing in
       absurd (let y : ⊥ = omega (arith, k, e, z) in y)
 
   -- 9 has no column

@@ -119,6 +119,10 @@ unmet-round q u = ⊎-elim (λ h. h .1) (λ h. omega (arith, h .1)) u
 pub unmet-column : {n : ℕ} (q : Refusal) → Unmet n q → columnOf q ≤ n
 unmet-column q u = ⊎-elim (λ h. rw (h .0) (omega arith)) (λ h. omega (arith, h .2)) u
 
+-- a solve of more unknowns has all columns of one of fewer
+pub unmet-more : {n m : ℕ} (q : Refusal) → n ≤ m → Unmet n q → Unmet m q
+unmet-more q l u = ⊎-elim (λ h. inl h) (λ h. inr (h .0, h .1, omega (arith, l, h .2))) u
+
 -- beside 21 the round is below 32, and the column below n
 pub singular-bounds : {n : ℕ} (i col : ℕ) → Unmet n (refusal.Singular i col) → (i < mostRounds) × (col < n)
 singular-bounds i col u = ⊎-elim (λ h. absurd (let z = ap numberOf (h .0) in let y : ⊥ = omega (arith, z) in y)) (λ h. (h .1, h .2)) u

@@ -44,8 +44,11 @@ slice-write-output-2 c = simp length-set (omega arith)
 slice-write-output-3 : tie.Need-slice-write-output-3
 slice-write-output-3 c = simp length-set (omega arith)
 
-enum-told : tie.Need-enum-told
-enum-told c = search needs
+enum-known-solved-2 : tie.Need-enum-known-solved-2
+enum-known-solved-2 c = search needs
+
+mul-result : tie.Need-mul-result
+mul-result c = let h = c .before .before .before .solve-3x3 .ensures .column _ (c .before .solved2 .given .1) in omega (arith, h)
 
 same-length : tie.Need-same-length
 same-length c = simp length-set
@@ -57,19 +60,20 @@ returns-3 c =
     let b = q .before .before in
     let e = b .before .before .before .before in
     rw (le-ltb _ _ (e .before .if1 .left), le-ltb _ _ (e .if2 .left))
-    (rw (← b .before .before .before .row3 .ensures, ← b .before .before .row32 .ensures, ← b .before .row33 .ensures, ← b .row34 .ensures, ← q .solve-3x3 .ensures, c .before .solved .given .1))
+    (rw (← b .before .before .before .row3 .ensures, ← b .before .before .row32 .ensures, ← b .before .row33 .ensures, ← b .row34 .ensures, ← q .solve-3x3 .ensures .answer, c .before .solved .given .1))
 
 returns-4 : tie.Need-returns-4
 unfolding probe3Of
 returns-4 c =
-    let q = c .before .before in
+    let q = c .before .before .before in
     let b = q .before .before in
     let e = b .before .before .before .before in
     rw (le-ltb _ _ (e .before .if1 .left), le-ltb _ _ (e .if2 .left))
-    (rw (← b .before .before .before .row3 .ensures, ← b .before .before .row32 .ensures, ← b .before .row33 .ensures, ← b .row34 .ensures, ← q .solve-3x3 .ensures, c .enum-told .given .1))
+    (rw (← b .before .before .before .row3 .ensures, ← b .before .before .row32 .ensures, ← b .before .row33 .ensures, ← b .row34 .ensures, ← q .solve-3x3 .ensures .answer, c .before .solved2 .given .1))
 
 pub probe-3x3-spec : {M : Type 1} → statement M
 probe-3x3-spec =
     tie.close
-    (tie.spec returns returns-2 row3-requires row3-requires-2 row3-requires-3 row3-requires-4 shared-slice-read-solve-3x3 solve-3x3-requires
-    enum-known-solved slice-write-output slice-write-output-2 slice-write-output-3 enum-told same-length returns-3 returns-4)
+    (tie.spec returns returns-2 row3-requires row3-requires-2 row3-requires-3 row3-requires-4 shared-slice-read-solve-3x3
+    solve-3x3-requires enum-known-solved slice-write-output slice-write-output-2 slice-write-output-3 enum-known-solved-2 mul-result
+    same-length returns-3 returns-4)

@@ -49,5 +49,5 @@ returns-2 c =
 pub free-correction-spec : {M : Type 1} → statement M
 free-correction-spec =
     tie.close
-    (tie.spec normal-matrix-requires solve-3x3-requires enum-known-solved enum-known-solved-2 new-requires dot-requires dot-requires-2 dot-requires-3
-    dot-requires-4 returns returns-2)
+    (tie.spec normal-matrix-requires solve-3x3-requires enum-known-solved enum-known-solved-2 new-requires dot-requires dot-requires-2
+    dot-requires-3 dot-requires-4 returns returns-2)

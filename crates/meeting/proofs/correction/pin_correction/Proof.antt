@@ -58,5 +58,5 @@ returns-2 c =
 pub pin-correction-spec : {M : Type 1} → statement M
 pin-correction-spec =
     tie.close
-    (tie.spec free-requires column-requires free-requires-2 column-requires-2 free-requires-3 column-requires-3 solve-3x3-requires enum-known-solved
-    enum-known-solved-2 placed-requires returns returns-2)
+    (tie.spec free-requires column-requires free-requires-2 column-requires-2 free-requires-3 column-requires-3 solve-3x3-requires
+    enum-known-solved enum-known-solved-2 placed-requires returns returns-2)

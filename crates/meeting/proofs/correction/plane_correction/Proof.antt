@@ -32,4 +32,6 @@ returns-2 c =
     rw (← c8 .dot .ensures, ← c7 .dot2 .ensures) (ap byFour (sym (c1 .solved2 .given .1) ∙ c3 .solve-4x4 .ensures .answer))
 
 pub plane-correction-spec : {M : Type 1} → statement M
-plane-correction-spec = tie.close (tie.spec dot-requires dot-requires-2 solve-4x4-requires enum-known-solved enum-known-solved-2 returns returns-2)
+plane-correction-spec =
+    tie.close
+    (tie.spec dot-requires dot-requires-2 solve-4x4-requires enum-known-solved enum-known-solved-2 returns returns-2)

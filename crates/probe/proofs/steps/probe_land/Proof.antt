@@ -1,4 +1,6 @@
+use native.Mathlib.Omega.{arith}
 use borrow.Author.Needs.{needs}
+use Rattle.meeting.proofs.Rounds.{unmet-more}
 use Rattle.probe.specs.Steps.{probeLand}
 use Rattle.probe.proofs.steps.probe_land.Statement.{statement}
 use Rattle.probe.proofs.steps.probe_land.Tie as tie
@@ -10,7 +12,7 @@ land-requires : tie.Need-land-requires
 land-requires c κs = search needs
 
 put-met-requires : tie.Need-put-met-requires
-put-met-requires c κs = (c .before .before .before .before .before .pre .1, c .before .land .ensures .unmet)
+put-met-requires c κs = (c .before .before .before .before .before .pre .1, λ q e. unmet-more q (omega arith) (c .before .land .ensures .unmet q e))
 
 same-length : tie.Need-same-length
 same-length c = search needs
