@@ -49,7 +49,7 @@ fn square_plane(frame: Frame3D) -> Patch
 }
 
 // Example 9: the unit frame's plane and the same one moved, the default tolerance, cap 2, guess all 0. The table says what it answers for a
-// move by nothing (10) and by (0, 0, 1) (9), and that 35 numbers lent are zero afterwards.
+// move by nothing (10) and by (0, 0, 1) (21), and that 35 numbers lent are zero afterwards.
 pub fn nine(by: Vector3D, lent: &mut [f64]) -> Traced
     ensures { λ r. ⌜ outcome r (now (lent .exit)) ≡ nineOf by (now (lent .entry)) ⌝ }
 {

@@ -204,7 +204,7 @@ fn placed(pin: usize, d: Solution3) -> Parameters
     with_parameter(second, free(pin, 2), d.x2)
 }
 
-// The correction of the three free parameters.
+// The correction of the three free parameters. The column is that of the i-th free one, and stays so.
 fn pin_correction(c: Columns, pin: usize, f: Vector3D) -> Correction
     ensures { λ r. ⌜ r ≡ pinCorrection c pin f ⌝ }
 {
@@ -214,7 +214,7 @@ fn pin_correction(c: Columns, pin: usize, f: Vector3D) -> Correction
     let m = [[p.x, q.x, s.x], [p.y, q.y, s.y], [p.z, q.z, s.z]];
     let solved = solve::solve_3x3(m, [-f.x, -f.y, -f.z], solve::SOLVER_TOL);
     match solved {
-        Solved3::Singular(column) => Correction::Singular(column),
+        Solved3::Singular(i) => Correction::Singular(i),
         Solved3::Solution(d) => Correction::By(placed(pin, d)),
     }
 }

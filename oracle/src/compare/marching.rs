@@ -760,25 +760,45 @@ pub fn compare(seed: u64, count: u64) -> u64 {
 /// Words of a record of the fixed list: the function (0 to 5), the pin, the input, the answer word, the output.
 const RECORD: usize = 2 + INPUT + 1 + 4;
 
-/// Writes the fixed list: `count` calls of each function with the oracle's answers, as big-endian words.
+/// Writes a record as big-endian words.
+fn put(out: &mut impl Write, c: &Call, (said, numbers): (u64, Vec<f64>)) -> io::Result<()> {
+    let mut words = [0u64; RECORD];
+    (words[0], words[1]) = c.step.number();
+    for (k, x) in input(c).iter().enumerate() {
+        words[2 + k] = word(*x);
+    }
+    words[2 + INPUT] = said;
+    for (k, x) in numbers.iter().enumerate() {
+        words[3 + INPUT + k] = word(*x);
+    }
+    words
+        .iter()
+        .try_for_each(|w| out.write_all(&w.to_be_bytes()))
+}
+
+/// How many columns the solve of a function has.
+const COLUMNS: [usize; STEPS.len()] = [0, 0, 0, 3, 4, 3];
+
+/// Writes the fixed list: `count` calls of each function with the oracle's answers, then three more for each column at which its solve can
+/// give up.
 pub fn record(seed: u64, count: u64) -> io::Result<()> {
     let mut out = io::stdout().lock();
-    for step in 0..STEPS.len() {
+    for (step, columns) in COLUMNS.into_iter().enumerate() {
         let mut r = Random::new(seed.wrapping_mul(8).wrapping_add(step as u64));
         for i in 0..count {
             let c = call(&mut r, i, step);
-            let (said, numbers) = answer(&c, Windows::Asked);
-            let mut words = [0u64; RECORD];
-            (words[0], words[1]) = c.step.number();
-            for (k, x) in input(&c).iter().enumerate() {
-                words[2 + k] = word(*x);
-            }
-            words[2 + INPUT] = said;
-            for (k, x) in numbers.iter().enumerate() {
-                words[3 + INPUT + k] = word(*x);
-            }
-            for w in words {
-                out.write_all(&w.to_be_bytes())?;
+            put(&mut out, &c, answer(&c, Windows::Asked))?;
+        }
+        let mut wanted = vec![3; columns];
+        let mut i = count;
+        while wanted.iter().any(|n| *n > 0) {
+            let c = call(&mut r, i, step);
+            i += 1;
+            let told = answer(&c, Windows::Asked);
+            let column = (told.0 >> 24) as usize;
+            if told.0 >> 8 & 0xff == 21 && wanted[column] > 0 {
+                wanted[column] -= 1;
+                put(&mut out, &c, told)?;
             }
         }
     }
