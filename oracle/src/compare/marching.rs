@@ -838,6 +838,10 @@ mod tests {
         }
     }
 
+    fn units() -> [Vector3D; 3] {
+        [[1.0, 0.0, 0.0], [0.0, 1.0, 0.0], [0.0, 0.0, 1.0]].map(|[x, y, z]| Vector3D::new(x, y, z))
+    }
+
     /// Number, round and column of a failed meeting, as `probe` tells them.
     fn unmet(number: u64, round: u64, column: u64) -> (u64, Vec<f64>) {
         ((number << 8) + (round << 16) + (column << 24), vec![])
@@ -845,11 +849,7 @@ mod tests {
 
     #[test]
     fn why_a_meeting_fails() {
-        let (x, y, z) = (
-            Vector3D::new(1.0, 0.0, 0.0),
-            Vector3D::new(0.0, 1.0, 0.0),
-            Vector3D::new(0.0, 0.0, 1.0),
-        );
+        let [x, y, z] = units();
         let mut c = unit_windows(Step::Meet, [0.0; 6]);
         let origin = Point3D::new(0.0, 0.0, 0.0);
         c.a.frame = Frame3D { origin, x, y, z };
@@ -875,11 +875,7 @@ mod tests {
 
     #[test]
     fn at_which_column_a_solve_gives_up() {
-        let (x, y, z) = (
-            Vector3D::new(1.0, 0.0, 0.0),
-            Vector3D::new(0.0, 1.0, 0.0),
-            Vector3D::new(0.0, 0.0, 1.0),
-        );
+        let [x, y, z] = units();
         let plane = [0.5, 0.0, 0.0, 1.0, 0.0, 0.0];
         // Two parallel planes. Without a plane the column is the coordinate in which they are apart; with one it is v on B; in a landing
         // it is the third free parameter.
