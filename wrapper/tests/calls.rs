@@ -204,6 +204,34 @@ fn refused_without_a_meeting() {
     }
 }
 
+/// Two planes one apart, by turns along x, y and z: the column names the coordinate.
+#[test]
+fn the_column_is_a_coordinate() {
+    let unit = |k: usize| {
+        let mut v = [0.0; 3];
+        v[k % 3] = 1.0;
+        v
+    };
+    for apart in 0..3 {
+        let mut job = example();
+        let mut put = |at: usize, numbers: [f64; 3]| {
+            for (k, x) in numbers.into_iter().enumerate() {
+                job[at + 8 * k..at + 8 * k + 8].copy_from_slice(&x.to_be_bytes());
+            }
+        };
+        for surface in [geomcore::SURFACE_A, geomcore::SURFACE_B] {
+            for direction in 1..4 {
+                put(surface + 2 + 24 * direction, unit(apart + direction));
+            }
+        }
+        put(geomcore::SURFACE_B + 2, unit(apart));
+        let mut buffer = vec![0.5; geomcore::room(500)];
+        let refused = geomcore::trace(&job, &mut buffer).unwrap_err();
+        assert_eq!((refused.number, refused.round), (21, 0));
+        assert_eq!(usize::from(refused.column), apart);
+    }
+}
+
 /// What the writer refuses, in its order, with nothing written.
 #[test]
 fn refused_by_the_writer() {

@@ -219,8 +219,8 @@ fn back3(m: [[f64; 3]; 3], b: [f64; 3]) -> [f64; 3]
     x
 }
 
-// The 3 by 3 system by Gaussian elimination with partial pivoting, or the first column whose pivot is at most tol times the scale; a
-// failure of back substitution there is none.
+// The 3 by 3 system by Gaussian elimination with partial pivoting, or the first column whose pivot is at most tol times the scale. Back
+// substitution never gives up.
 // The columns one by one: with each index written out the rows stay in registers.
 pub fn solve_3x3(a: [[f64; 3]; 3], b: [f64; 3], tol: f64) -> Solved3
     ensures { λ r. ⌜ Solve3Promise a b tol r ⌝ }
