@@ -60,7 +60,8 @@ returns-3 c =
     let b = q .before .before in
     let e = b .before .before .before .before in
     rw (le-ltb _ _ (e .before .if1 .left), le-ltb _ _ (e .if2 .left))
-    (rw (← b .before .before .before .row3 .ensures, ← b .before .before .row32 .ensures, ← b .before .row33 .ensures, ← b .row34 .ensures, ← q .solve-3x3 .ensures .answer, c .before .solved .given .1))
+    (rw (← b .before .before .before .row3 .ensures, ← b .before .before .row32 .ensures, ← b .before .row33 .ensures, ← b .row34 .ensures)
+    (rw (← q .solve-3x3 .ensures .answer, c .before .solved .given .1)))
 
 returns-4 : tie.Need-returns-4
 unfolding probe3Of
@@ -69,7 +70,8 @@ returns-4 c =
     let b = q .before .before in
     let e = b .before .before .before .before in
     rw (le-ltb _ _ (e .before .if1 .left), le-ltb _ _ (e .if2 .left))
-    (rw (← b .before .before .before .row3 .ensures, ← b .before .before .row32 .ensures, ← b .before .row33 .ensures, ← b .row34 .ensures, ← q .solve-3x3 .ensures .answer, c .before .solved2 .given .1))
+    (rw (← b .before .before .before .row3 .ensures, ← b .before .before .row32 .ensures, ← b .before .row33 .ensures, ← b .row34 .ensures)
+    (rw (← q .solve-3x3 .ensures .answer, c .before .solved2 .given .1)))
 
 pub probe-3x3-spec : {M : Type 1} → statement M
 probe-3x3-spec =

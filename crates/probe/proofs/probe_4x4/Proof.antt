@@ -67,7 +67,8 @@ returns-3 c =
     let d = b .before .before in
     let e = d .before .before .before in
     rw (le-ltb _ _ (e .before .if1 .left), le-ltb _ _ (e .if2 .left))
-    (rw (← d .before .before .row4 .ensures, ← d .before .row42 .ensures, ← d .row43 .ensures, ← b .before .row44 .ensures, ← b .row45 .ensures, ← q .solve-4x4 .ensures .answer, c .before .solved .given .1))
+    (rw (← d .before .before .row4 .ensures, ← d .before .row42 .ensures, ← d .row43 .ensures, ← b .before .row44 .ensures, ← b .row45 .ensures)
+    (rw (← q .solve-4x4 .ensures .answer, c .before .solved .given .1)))
 
 returns-4 : tie.Need-returns-4
 unfolding probe4Of
@@ -77,7 +78,8 @@ returns-4 c =
     let d = b .before .before in
     let e = d .before .before .before in
     rw (le-ltb _ _ (e .before .if1 .left), le-ltb _ _ (e .if2 .left))
-    (rw (← d .before .before .row4 .ensures, ← d .before .row42 .ensures, ← d .row43 .ensures, ← b .before .row44 .ensures, ← b .row45 .ensures, ← q .solve-4x4 .ensures .answer, c .before .solved2 .given .1))
+    (rw (← d .before .before .row4 .ensures, ← d .before .row42 .ensures, ← d .row43 .ensures, ← b .before .row44 .ensures, ← b .row45 .ensures)
+    (rw (← q .solve-4x4 .ensures .answer, c .before .solved2 .given .1)))
 
 pub probe-4x4-spec : {M : Type 1} → statement M
 probe-4x4-spec =
