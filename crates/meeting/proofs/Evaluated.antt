@@ -63,15 +63,16 @@ pub equal-planes-meet : meetOf (planeAt (bits 0)) (planeAt (bits 0)) origin defa
 unfolding computing
 equal-planes-meet = refl
 
+-- column 2: they are apart in z
 pub planes-apart-do-not : meetOf (planeAt (bits 0)) (planeAt (bits 0x3ff0_0000_0000_0000)) origin defaultTolerance ≡ Refused (refusal.Singular 0 2)
 unfolding computing
 planes-apart-do-not = refl
 
--- the upright plane of the points (3, u, v)
-abbrev pub upright : Patch
-upright = record {
+-- the upright plane of the points (x, u, v)
+abbrev pub uprightAt : Float → Patch
+uprightAt x = record {
   surface = Plane (record {
-    origin = pointOf (bits 0x4008_0000_0000_0000) (bits 0) (bits 0);
+    origin = pointOf x (bits 0) (bits 0);
     x = vectorOf (bits 0) (bits 0x3ff0_0000_0000_0000) (bits 0);
     y = vectorOf (bits 0) (bits 0) (bits 0x3ff0_0000_0000_0000);
     z = vectorOf (bits 0x3ff0_0000_0000_0000) (bits 0) (bits 0);
@@ -80,7 +81,12 @@ upright = record {
   v = window;
 }
 
-pub out-of-reach : meetOf (planeAt (bits 0)) upright origin defaultTolerance ≡ Refused (refusal.NoMeeting 1)
+-- column 0: they are apart in x
+pub uprights-apart-do-not : meetOf (uprightAt (bits 0)) (uprightAt (bits 0x3ff0_0000_0000_0000)) origin defaultTolerance ≡ Refused (refusal.Singular 0 0)
+unfolding computing
+uprights-apart-do-not = refl
+
+pub out-of-reach : meetOf (planeAt (bits 0)) (uprightAt (bits 0x4008_0000_0000_0000)) origin defaultTolerance ≡ Refused (refusal.NoMeeting 1)
 unfolding computing
 out-of-reach = refl
 
