@@ -115,7 +115,7 @@ meet-unmet a b x tol q e = newton-promised a b _ _ _ refl .unmet q e
 pub unmet-round : {n : ℕ} (q : Refusal) → Unmet n q → roundOf q ≤ mostRounds
 unmet-round q u = ⊎-elim (λ h. h .1) (λ h. omega (arith, h .1)) u
 
--- and the column below n
+-- and the column at most n
 pub unmet-column : {n : ℕ} (q : Refusal) → Unmet n q → columnOf q ≤ n
 unmet-column q u = ⊎-elim (λ h. rw (h .0) (omega arith)) (λ h. omega (arith, h .2)) u
 

@@ -10,7 +10,8 @@ ghost use mathlib.Core.List.{[]};
 ghost use lib.Ieee.{nan};
 ghost use lib.ListN.{length};
 ghost use Prim.Native.Nat.{_<_, _≤_};
-ghost use Rattle.solve.specs.Solve.{magnitudesOf, sumOfMagnitudes, greaterOf, heldOf, pivotOf, swapOf, rowEliminated, system, eliminatedOf, substituted, backSubstitution, Solve3Promise, Solve4Promise};
+ghost use Rattle.solve.specs.Solve.{magnitudesOf, sumOfMagnitudes, greaterOf, heldOf, pivotOf, swapOf, rowEliminated, system};
+ghost use Rattle.solve.specs.Solve.{eliminatedOf, substituted, backSubstitution, Solve3Promise, Solve4Promise};
 
 // The tolerance of the walk's solves; the solvers take any.
 pub const SOLVER_TOL: f64 = 1e-12;
