@@ -1,4 +1,6 @@
 //! A job answered: its file read, the line walked over numbers lent here, and the answer's line made.
+#![tactic(auto)]
+
 pub mod line;
 
 ghost use Rattle.std.specs.Prelude.{◌≡◌, length};

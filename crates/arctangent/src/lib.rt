@@ -1,5 +1,7 @@
 //! fdlibm 5.3's arc tangent, and that of two arguments: the same constants, the same order of operations, the same tests on the high words.
 //! Each function equals the definition of `specs/` that is written from the C function of its name.
+#![tactic(auto)]
+
 ghost use Rattle.std.specs.Prelude.{◌≡◌};
 ghost use Rattle.arctangent.specs.Arctangent.{atan_of, atan2_of};
 

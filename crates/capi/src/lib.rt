@@ -1,6 +1,8 @@
 //! The C interface: each function is thin over one of the library below, and its contract is that function's.
 //!
 //! `rt staticlib capi` writes the archive. A slice passes as a pointer and a length.
+#![tactic(auto)]
+
 ghost use Rattle.std.specs.Prelude.{◌≡◌, ◌+◌, ◌*◌, ◌≤◌, ◌<◌, length};
 ghost use Rattle.capi.specs.Answer.{answered};
 ghost use Rattle.refusal.specs.Verdict.{index_in};

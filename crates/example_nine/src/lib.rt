@@ -1,4 +1,6 @@
 //! Example 9 as a call, with the constants that the Rust has for it. What it answers stands in the table (`specs/Table.antt`).
+#![tactic(auto)]
+
 ghost use Rattle.std.specs.Prelude.{◌≡◌};
 ghost use Rattle.groups.specs.Traced.{outcome};
 ghost use Rattle.examples.specs.Table.{moved_frame, unit_frame, square_plane, nine_of};

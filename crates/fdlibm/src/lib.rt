@@ -1,6 +1,8 @@
 //! fdlibm 5.3's sine and cosine: the same constants, the same order of operations, the same tests on the high words. Each function
 //! equals the definition of `specs/` that is written from the C function of its name.
 //! An angle is in reach when the upper 32 bits of its magnitude are at most hexadecimal 413921fb; beyond that sine and cosine are NaN.
+#![tactic(auto)]
+
 ghost use Rattle.std.specs.Prelude.{◌≡◌};
 ghost use Rattle.fdlibm.specs.Sine.{sin_of, cos_of, sin_at, cos_at};
 

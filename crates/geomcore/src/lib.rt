@@ -7,4 +7,6 @@
 //!
 //! A trace stands in a lent list, seven numbers a point: x, y, z of the point of surface A, u and v on A, u and v on B
 //! (`groups::WIDTH`, `groups::Row`). The trace file of version 1 has seven numbers of its own (`trace_file`).
+#![tactic(auto)]
+
 pub mod call;

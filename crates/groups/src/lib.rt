@@ -1,5 +1,7 @@
 //! Groups of numbers in a flat lent list, one group a point. The width of a group and the least and most points of a trace stand here, once
 //! for the code and once for the definitions (`specs/Groups.antt`); the laws in `proofs/Groups.antt` hold for every width.
+#![tactic(auto)]
+
 pub mod row;
 pub mod traced;
 

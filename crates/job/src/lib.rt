@@ -1,4 +1,6 @@
 //! The job file: two surfaces, a tolerance, a guess and a cap in 347 bytes. `layout` has the places of its parts, `file` reads it.
+#![tactic(auto)]
+
 pub mod file;
 mod layout;
 

@@ -1,4 +1,6 @@
 //! Helpers on binary64 numbers. Each is total and equals a definition of `specs/Helpers.antt` or of the logic's IEEE 754.
+#![tactic(auto)]
+
 ghost use Rattle.std.specs.Prelude.{◌≡◌};
 ghost use Rattle.std.specs.Float.{binary64};
 ghost use Rattle.std.specs.Float.Ieee.{to_bits, of_bits};

@@ -3,6 +3,8 @@
 //! The solvers: the input holds the matrix row by row, the right side and tol; a solution goes to the front of the output.
 //! The answer: 1 solved, 9 a slice too short, else the solver gave up: 2^8 times the column, 0 of two unknowns. Where it is not 1 the
 //! output is as it was.
+#![tactic(auto)]
+
 mod call;
 pub mod steps;
 pub mod surface;

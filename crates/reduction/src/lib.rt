@@ -1,5 +1,7 @@
 //! The reduction of an angle by multiples of pi/2: e_rem_pio2.c of fdlibm 5.3 up to its medium range, with the same constants, the same order of
 //! operations and the same tests on the high words.
+#![tactic(auto)]
+
 ghost use Rattle.std.specs.Prelude.{◌≡◌, ◌<◌, get_or};
 ghost use Rattle.std.specs.Float.Ieee.{to_unsigned};
 ghost use Rattle.reduction.specs.Reduction.{npio2hw, rem_pio2, above_of, below_of, medium_of, negated_of, first_difference, next_difference, careful_of, refined_of};

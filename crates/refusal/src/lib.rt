@@ -1,4 +1,6 @@
 //! Why a call is refused: one enum for every call, and document 01's number for each case.
+#![tactic(auto)]
+
 ghost use Rattle.std.specs.Prelude.{◌≡◌};
 ghost use Rattle.refusal.specs.Refusal.{alone, of_point, in_round, in_column, numbers_of, number_of};
 

@@ -2,6 +2,8 @@
 //!
 //! Standard input holds lists, one behind the other. A list is headed by two 8-byte big-endian words, its kind and how many records it
 //! has; the module of a kind says what a record is. `tools/lists.py` puts a list in its place.
+#![tactic(auto)]
+
 mod checks;
 mod crossings;
 mod files;

@@ -3,6 +3,8 @@
 //! Each solver answers for every input, NaNs and infinities too, and its answer is the one that `specs/Solve.antt` computes.
 //! Rattle has no const generics: what works on one row takes a slice and serves both sizes, and what works on a whole matrix or swaps the
 //! right side stands once for 3 and once for 4, over one definition and one set of laws.
+#![tactic(auto)]
+
 pub mod cramer;
 
 ghost use Rattle.std.specs.Prelude.{◌≡◌, [], length, ◌<◌, ◌≤◌};

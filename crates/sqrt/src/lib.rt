@@ -4,6 +4,8 @@
 //! `m * 2 ^ g` with an `m` of 53 digits, up to a power of 4, and the 53 digits of the root are those of the root of
 //! `a * 2 ^ 52`, where `a` is `m` or `2 * m`. A candidate for them comes from a few floating-point steps. Of its value nothing is proved:
 //! whole numbers test exactly that it is the nearest one, and where the test fails the digits are found one by one.
+#![tactic(auto)]
+
 ghost use Rattle.std.specs.Prelude.{◌≡◌, ◌+◌, ◌*◌, ◌^◌, ◌<◌, ◌≤◌, true, not, T, is_nan};
 ghost use Rattle.number.specs.Operators.{◌≤?◌};
 ghost use Rattle.sqrt.specs.Sqrt.{round_root, sqrt_of, SqrtGives};

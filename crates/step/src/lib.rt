@@ -1,5 +1,7 @@
 //! One step of the walk, after the Rust's `trace` (intersect/marching.rs): what a stride of a given length leads to, the stride shortened
 //! until it leads somewhere, then the closing test, the edge rule and the length of the next stride.
+#![tactic(auto)]
+
 mod attempt;
 mod closing;
 mod shorten;

@@ -1,4 +1,6 @@
 //! The direction of the curve where two patches meet: `tangent` of the Rust's intersect/marching.rs.
+#![tactic(auto)]
+
 ghost use Rattle.std.specs.Prelude.{◌≡◌, true, T};
 ghost use Rattle.number.specs.Operators.{bits, ◌⊗◌, ◌≤?◌};
 ghost use Rattle.number.specs.Helpers.{min_positive, max_of};

@@ -2,6 +2,8 @@
 //!
 //! The version and how many numbers a point has are arguments of every function but the public ones. Version 1 has seven numbers a point:
 //! its own seven, whatever a trace in memory has.
+#![tactic(auto)]
+
 mod layout;
 pub mod read;
 pub mod write;

@@ -1,4 +1,5 @@
 //! The job program: a job file on standard input, the answer's line on standard output.
+#![tactic(auto)]
 
 fn main() {
     // One byte more than a job file has, so that a longer input shows.

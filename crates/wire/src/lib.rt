@@ -1,4 +1,6 @@
 //! Big-endian numbers in lent bytes, read and put down: what the file formats are made of.
+#![tactic(auto)]
+
 ghost use Rattle.std.specs.Prelude.{◌≡◌, ◌+◌, ◌≤◌, ◌<◌, length};
 ghost use Rattle.loops.specs.Over.{over};
 ghost use Rattle.wire.specs.Wire.{byte_at, two_at, four_at, eight_at, number_at, one_byte, two_bytes, four_bytes, eight_bytes, number_bytes};
