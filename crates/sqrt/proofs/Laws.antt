@@ -25,6 +25,8 @@ zero_root (fin s zero e) f h z = refl
 zero_root (fin s (suc m) e) f h z =
     let none = (whole (fin s (suc m) e) f h).1 ∙ ap (λ (k : ℕ). k * down e) z ∙ zero-mul (down e) in
     absurd (lt_irrefl 0 (subst (λ (k : ℕ). 0 < k) none (mul-pos (mul-pos (zero-lt-suc m) (up_pos e)) (pow_pos 1074))))
+zero_root nan f h z = elim h [ ]
+zero_root (inf _) f h z = elim h [ ]
 
 -- ---- a finite number that is not negative
 module _ (x : Float) (f : T (fits binary64 x)) (h : T (finite x)) (n : neg? x ≡ false) where

@@ -37,6 +37,8 @@ to_bits_of (fin true m e) a h = absurd (true≢false h.0)
 to_bits_of (fin false m e) a h =
     ap (λ (n : ℕ). 0 + (size n - 53) * 2 ^ 52 + n / 2 ^ (size n - 53)) (ap (λ (x : ℕ). x / down e) h.1 ∙ mul-div_cancel a (down_pos e))
     ∙ ap (λ (n : ℕ). n + a / 2 ^ (size a - 53)) (zero-add ((size a - 53) * 2 ^ 52))
+to_bits_of lib.Ieee.nan a h = elim h [ ]
+to_bits_of (inf _) a h = elim h [ ]
 
 -- a number of 53 digits with j zeros after it drops those
 field : (q j : ℕ) → 2 ^ 52 ≤ q → q < 2 ^ 53 → (size (q * 2 ^ j) - 53) * 2 ^ 52 + q * 2 ^ j / 2 ^ (size (q * 2 ^ j) - 53) ≡ j * 2 ^ 52 + q

@@ -1,0 +1,5 @@
+use borrow.Author.Rules.{rules}
+use Rattle.number.proofs.magnitude_at_most.Goals as goal
+
+pub returns : goal.returns
+returns c = rw c.abs.ensures

@@ -1,0 +1,5 @@
+use mathlib.Core.Path.{refl}
+use Rattle.refusal.proofs.of_point.Goals as goal
+
+pub returns : goal.returns
+returns c = refl

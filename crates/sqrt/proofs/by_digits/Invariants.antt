@@ -1,0 +1,14 @@
+-- The invariant: the digits found and those left make up the number, before each iteration.
+use Rattle.std.proofs.Common.{◌≡◌, ℕ, suc, ◌+◌, ◌-◌, ◌*◌, ◌/◌, ◌%◌, ◌^◌, ◌<◌, ◌≤◌, sym, ap, ◌∙◌, subst, lt_of_lt_of_le, mod-lt, mod-eq_of_lt, mul_assoc, mul_comm, mul-pos, pow-suc, zero-add, mul-one, arith, lit<, pow_mono, pow-add}
+use Rattle.sqrt.proofs.Root.{nearest_up, nearest_down}
+use Rattle.sqrt.proofs.by_digits.Given as goal
+
+-- N are the number's first digits and x the next ones, as a fraction of 2 ^ 64; k pairs of digits are left
+abbrev pub Left : ℕ → ℕ → ℕ → ℕ → Type 0
+Left a N x k = (N * 2 ^ 64 + x) * 4 ^ k ≡ a * 2 ^ 10 * 4 ^ 53
+
+abbrev pub invariant-loop : goal.invariant-loop
+invariant-loop l = Left l.a (l.q * l.q + l.r) l.x (53 - l.counter) × (l.r ≤ 2 * l.q) × (l.q < 2 ^ l.counter) × (l.x < 2 ^ 64) × (l.counter ≤ 53)
+
+abbrev pub decreases-loop : goal.decreases-loop
+decreases-loop l = 53 - l.counter

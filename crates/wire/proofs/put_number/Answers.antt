@@ -1,0 +1,13 @@
+use mathlib.Core.Path.{ap, ◌∙◌}
+use Prim.Native.Nat.{ℕ}
+use borrow.Author.Rules.{rules}
+use Rattle.wire.specs.Wire.{eight_bytes, number_bytes}
+use Rattle.loops.specs.Over.{over}
+use Rattle.wire.specs.Wire.{number_bytes}
+use Rattle.wire.proofs.put_number.Goals as goal
+
+pub returns : goal.returns
+unfolding number_bytes
+returns c =
+    let g = c.args in
+    c.put_eight.ensures ∙ ap (λ (n : ℕ). over g.bytes.now g.at (eight_bytes n)) c.to_bits.ensures
