@@ -1,0 +1,7 @@
+use mathlib.Core.Path.{refl}
+use Rattle.geometry.specs.Vector.{scale_of}
+use Rattle.geometry.proofs.vector.Vector3D.scale.Goals as goal
+
+pub returns : goal.returns
+unfolding scale_of
+returns c = refl
