@@ -1,0 +1,51 @@
+use mathlib.Core.Path.{refl, ap}
+use borrow.Author.Rules.{rules}
+use borrow.Author.Tests.{lt-ltb, le-ltb, le-leb, lt-leb, eq-eqb, ne_eqb}
+use Rattle.loops.proofs.Choice.{pick_taken, pick_left}
+use Rattle.reduction.specs.declared.Reduced.TheVariants.{To}
+use Rattle.reduction.specs.Reduction.{rem_pio2}
+use Rattle.reduction.proofs.rem_pio2.Goals as goal
+
+pub returns-then-ix-le1072243195 : goal.returns-then-ix-le1072243195
+unfolding rem_pio2
+returns-then-ix-le1072243195 c = rw (← c.high_word-ix.ensures) (pick_taken _ (le-leb _ _ c.if-ix-le1072243195.true) refl)
+
+pub returns-then-sign-eq0 : goal.returns-then-sign-eq0
+unfolding rem_pio2
+returns-then-sign-eq0 c =
+    rw (c.near_above.ensures, ← c.sign_bit-sign.ensures, ← c.high_word-ix.ensures)
+    (pick_left _ (lt-leb _ _ c.if-ix-le1072243195.false) (pick_taken _ (lt-ltb _ _ c.if-ix-lt1073928572.true) (ap To (pick_taken _ (eq-eqb _ _ c.if-sign-eq0.true) refl))))
+
+pub returns-else-sign-eq0 : goal.returns-else-sign-eq0
+unfolding rem_pio2
+returns-else-sign-eq0 c =
+    rw (c.near_below.ensures, ← c.sign_bit-sign.ensures, ← c.high_word-ix.ensures)
+    (pick_left _ (lt-leb _ _ c.if-ix-le1072243195.false) (pick_taken _ (lt-ltb _ _ c.if-ix-lt1073928572.true) (ap To (pick_left _ (ne_eqb _ _ c.if-sign-eq0.false) refl))))
+
+pub returns-then-sign-eq0-2 : goal.returns-then-sign-eq0-2
+unfolding rem_pio2
+returns-then-sign-eq0-2 c =
+    rw (c.medium-a.ensures, c.abs.ensures, ← c.sign_bit-sign.ensures, ← c.high_word-ix.ensures)
+    (pick_left _ (lt-leb _ _ c.if-ix-le1072243195.false) (pick_left _ (le-ltb _ _ c.if-ix-lt1073928572.false)
+    (pick_taken _ (le-leb _ _ c.if-ix-le-REACH.true) (ap To (pick_taken _ (eq-eqb _ _ c.if-sign-eq0-2.true) refl)))))
+
+pub returns-else-sign-eq0-2 : goal.returns-else-sign-eq0-2
+unfolding rem_pio2
+returns-else-sign-eq0-2 c =
+    rw (c.negated.ensures, c.medium-a.ensures, c.abs.ensures, ← c.sign_bit-sign.ensures, ← c.high_word-ix.ensures)
+    (pick_left _ (lt-leb _ _ c.if-ix-le1072243195.false) (pick_left _ (le-ltb _ _ c.if-ix-lt1073928572.false)
+    (pick_taken _ (le-leb _ _ c.if-ix-le-REACH.true) (ap To (pick_left _ (ne_eqb _ _ c.if-sign-eq0-2.false) refl)))))
+
+pub returns-then-ix-ge2146435072 : goal.returns-then-ix-ge2146435072
+unfolding rem_pio2
+returns-then-ix-ge2146435072 c =
+    rw (← c.high_word-ix.ensures)
+    (pick_left _ (lt-leb _ _ c.if-ix-le1072243195.false) (pick_left _ (le-ltb _ _ c.if-ix-lt1073928572.false)
+    (pick_left _ (lt-leb _ _ c.if-ix-le-REACH.false) (pick_taken _ (le-leb _ _ c.if-ix-ge2146435072.true) refl))))
+
+pub returns-else-ix-ge2146435072 : goal.returns-else-ix-ge2146435072
+unfolding rem_pio2
+returns-else-ix-ge2146435072 c =
+    rw (← c.high_word-ix.ensures)
+    (pick_left _ (lt-leb _ _ c.if-ix-le1072243195.false) (pick_left _ (le-ltb _ _ c.if-ix-lt1073928572.false)
+    (pick_left _ (lt-leb _ _ c.if-ix-le-REACH.false) (pick_left _ (lt-leb _ _ c.if-ix-ge2146435072.false) refl))))

@@ -1,0 +1,6 @@
+use borrow.Author.Rules.{rules}
+use mathlib.Core.Path.{refl}
+use Rattle.solve.proofs.cramer.cramer.Goals as goal
+
+pub returns : goal.returns
+returns c = refl

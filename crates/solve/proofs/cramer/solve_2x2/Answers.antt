@@ -1,0 +1,11 @@
+use mathlib.Core.Path.{ap, ◌∙◌}
+use borrow.Author.Rules.{rules}
+use Rattle.solve.specs.declared.cramer.Solved2.TheVariants.{Solution}
+use Rattle.solve.proofs.GivesUp.{at_determinant}
+use Rattle.solve.proofs.cramer.solve_2x2.Goals as goal
+
+pub returns-then-gives_up : goal.returns-then-gives_up
+returns-then-gives_up c = at_determinant _ _ _ c.determinant-det.ensures c.scale2.ensures c.gives_up.ensures c.if-gives_up.true
+
+pub returns : goal.returns
+returns c = ap Solution c.cramer.ensures ∙ at_determinant _ _ _ c.determinant-det.ensures c.scale2.ensures c.gives_up.ensures c.if-gives_up.false

@@ -1,0 +1,21 @@
+-- Each iteration eliminates a row, and its right side follows.
+use mathlib.Core.Path.{◌≡◌, refl}
+use Prim.Native.Nat.{◌-◌, ◌≤◌}
+use borrow.Author.Rules.{rules}
+use native.Mathlib.Omega.{arith}
+use Rattle.loops.specs.Loop.{ranged}
+use Rattle.loops.proofs.Loop.{ranged_again, ranged_done}
+use Rattle.solve.specs.Solve.{system, eliminate_row, eliminated_of}
+use Rattle.solve.proofs.Laws.{row_eliminated_lem}
+use Rattle.solve.proofs.eliminate3.Goals as goal
+
+pub loop-row-init : goal.loop-row-init
+loop-row-init c = (refl, omega arith)
+
+pub loop-row-preserved : goal.loop-row-preserved
+loop-row-preserved c =
+    let s = c.loop-row in
+    (ranged_again _ _ 3 c.loop-row-test.true (row_eliminated_lem 3 c.args.col s.row s.m s.b c.eliminate_row3-reduced.ensures) s.invariant.0, omega arith)
+
+pub returns : goal.returns
+returns c = ranged_done _ _ _ c.loop-row-test.false c.loop-row.invariant.0

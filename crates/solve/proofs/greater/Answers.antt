@@ -1,0 +1,18 @@
+use mathlib.Core.Path.{◌≡◌, refl}
+use mathlib.Core.Bool.{true, false}
+use borrow.Author.Rules.{rules}
+use Rattle.loops.proofs.Choice.{pick_taken, pick_left}
+use Rattle.solve.specs.Solve.{displaces}
+use Rattle.solve.proofs.greater.Goals as goal
+
+pub returns-then-abs : goal.returns-then-abs
+returns-then-abs c =
+    let a = c.args in
+    let d : displaces a.held a.entry ≡ true = rw (← c.abs-2.ensures, ← c.abs.ensures) c.if-abs.true in
+    (pick_taken _ d refl, pick_taken _ d refl)
+
+pub returns-else-abs : goal.returns-else-abs
+returns-else-abs c =
+    let a = c.args in
+    let d : displaces a.held a.entry ≡ false = rw (← c.abs-2.ensures, ← c.abs.ensures) c.if-abs.false in
+    (pick_left _ d refl, pick_left _ d refl)

@@ -1,0 +1,16 @@
+-- Each iteration adds a magnitude.
+use mathlib.Core.Path.{◌≡◌, refl, ap}
+use Prim.Native.Nat.{◌-◌, ◌≤◌}
+use borrow.Author.Rules.{rules}
+use native.Mathlib.Omega.{arith}
+use Rattle.number.specs.Operators.{◌⊕◌}
+use Rattle.loops.specs.Loop.{ranged}
+use Rattle.loops.proofs.Loop.{ranged_again, ranged_done}
+use Rattle.solve.specs.Solve.{add_magnitude, magnitudes_of}
+use Rattle.solve.proofs.magnitudes.Given as goal
+
+abbrev pub invariant-loop-k : goal.invariant-loop-k
+invariant-loop-k l = (ranged (add_magnitude l.row) l.k l.n l.sum ≡ magnitudes_of l.n l.row l.fn.sum) × (l.k ≤ l.n)
+
+abbrev pub decreases-loop-k : goal.decreases-loop-k
+decreases-loop-k l = l.n - l.k

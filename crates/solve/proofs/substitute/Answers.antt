@@ -1,0 +1,18 @@
+-- Each iteration takes a product off.
+use mathlib.Core.Path.{◌≡◌, refl}
+use Prim.Native.Nat.{◌-◌, ◌≤◌}
+use borrow.Author.Rules.{rules}
+use native.Mathlib.Omega.{arith}
+use Rattle.loops.specs.Loop.{ranged}
+use Rattle.loops.proofs.Loop.{ranged_again, ranged_done}
+use Rattle.solve.specs.Solve.{less_product, substituted}
+use Rattle.solve.proofs.substitute.Goals as goal
+
+pub loop-k-init : goal.loop-k-init
+loop-k-init c = (refl, omega arith)
+
+pub loop-k-preserved : goal.loop-k-preserved
+loop-k-preserved c = (ranged_again _ _ _ c.loop-k-test.true refl c.loop-k.invariant.0, omega arith)
+
+pub returns : goal.returns
+returns c = ranged_done _ _ _ c.loop-k-test.false c.loop-k.invariant.0
