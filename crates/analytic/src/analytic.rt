@@ -7,7 +7,7 @@ ghost use Rattle.analytic.specs.Surface.{eval_point, combination_of, eval_d1};
 use geometry::{Frame3D, Point3D, Vector3D};
 
 // The derivatives by u and by v.
-#[derive(Drop)]
+#[derive(Clone, Copy)]
 pub struct Derivatives {
     pub u: Vector3D,
     pub v: Vector3D,

@@ -5,7 +5,7 @@ use crate::analytic::Derivatives;
 use geometry::{Frame3D, Point3D};
 
 // One of five kinds, each carrying its frame and its sizes.
-#[derive(Drop)]
+#[derive(Clone, Copy)]
 pub enum Surface {
     Plane(Frame3D),
     // frame, radius

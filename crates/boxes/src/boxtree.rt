@@ -4,7 +4,7 @@ ghost use Rattle.boxes.specs.Bounds.{apart_on, boxes_apart};
 use geometry::Point3D;
 
 // A box with sides along the axes: the Rust's six numbers as two corners.
-#[derive(Drop)]
+#[derive(Clone, Copy)]
 pub struct Aabb {
     pub low: Point3D,
     pub high: Point3D,

@@ -9,7 +9,7 @@ use groups::row::point_at;
 use refusal::{Refusal, Verdict};
 
 // The answer of the public crossing.
-#[derive(Drop)]
+#[derive(Clone, Copy)]
 pub enum Crossed {
     Yes,
     No,

@@ -15,13 +15,13 @@ const RUN: usize = 16;
 const CHORD_DEVIATION: f64 = 1000.0;
 
 // The fractions of a segment that are inside the slabs looked at so far.
-#[derive(Drop)]
+#[derive(Clone, Copy)]
 pub struct Span {
     pub lo: f64,
     pub hi: f64,
 }
 
-#[derive(Drop)]
+#[derive(Clone, Copy)]
 pub enum Clipped {
     Meets(Span),
     Misses,

@@ -11,7 +11,7 @@ use reduction::{Reduced, Reduction};
 mod kernel; // k_sin.c, k_cos.c
 
 // The sine and the cosine of one angle.
-#[derive(Drop)]
+#[derive(Clone, Copy)]
 struct SinCos {
     sin: f64,
     cos: f64,

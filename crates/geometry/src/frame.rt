@@ -5,7 +5,7 @@ use crate::point::Point3D;
 use crate::vector::Vector3D;
 
 // An origin and three directions as given: no right angle is tested.
-#[derive(Drop)]
+#[derive(Clone, Copy)]
 pub struct Frame3D {
     pub origin: Point3D,
     pub x: Vector3D,

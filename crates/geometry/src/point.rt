@@ -7,7 +7,7 @@ use crate::vector::Vector3D;
 // No chord of a trace is longer, the closing one left out.
 pub const LONGEST_CHORD: f64 = 0.2;
 
-#[derive(Drop)]
+#[derive(Clone, Copy)]
 pub struct Point3D {
     pub x: f64,
     pub y: f64,

@@ -3,7 +3,7 @@ ghost use Rattle.std.specs.Prelude.{◌≡◌};
 ghost use Rattle.geometry.specs.Tolerance.{tolerance_fit};
 
 // How close is close: lengths by confusion, angles by angular. The parametric tolerance is carried and not read.
-#[derive(Drop)]
+#[derive(Clone, Copy)]
 pub struct Tolerance {
     pub confusion: f64,
     pub angular: f64,

@@ -4,7 +4,7 @@ ghost use Rattle.std.specs.Prelude.{◌≡◌};
 ghost use Rattle.number.specs.Operators.{◌≤?◌};
 ghost use Rattle.geometry.specs.Vector.{vector_of, dot_of, cross_of, magnitude_of, square_magnitude_of, add_of, neg_of, scale_of};
 
-#[derive(Drop)]
+#[derive(Clone, Copy)]
 pub struct Vector3D {
     pub x: f64,
     pub y: f64,

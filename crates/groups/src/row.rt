@@ -6,7 +6,7 @@ use crate::WIDTH;
 use geometry::Point3D;
 
 // The numbers of one point: a point of surface A, then its parameters on A and on B.
-#[derive(Drop)]
+#[derive(Clone, Copy)]
 pub struct Row {
     pub x: f64,
     pub y: f64,

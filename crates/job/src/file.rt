@@ -9,7 +9,7 @@ use patch::{Parameters, Patch, Window};
 use refusal::Refusal;
 
 // What a job file asks for: the line where A and B meet. The parametric tolerance isn't read.
-#[derive(Drop)]
+#[derive(Clone, Copy)]
 pub struct Job {
     pub a: Patch,
     pub b: Patch,
@@ -19,14 +19,14 @@ pub struct Job {
 }
 
 // A surface read from its bytes.
-#[derive(Drop)]
+#[derive(Clone, Copy)]
 pub enum SurfaceRead {
     Whole(Patch),
     Refused(Refusal),
 }
 
 // A job read from its file.
-#[derive(Drop)]
+#[derive(Clone, Copy)]
 pub enum JobRead {
     Whole(Job),
     Refused(Refusal),

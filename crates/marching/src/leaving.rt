@@ -5,14 +5,14 @@ ghost use Rattle.marching.specs.Leaving.{lesser_of, consider_of, first_exit, lea
 use patch::{Parameters, Patch, Window};
 
 // The parameter that a move takes out of its window first, and the bound that it oversteps.
-#[derive(Drop)]
+#[derive(Clone, Copy)]
 pub enum Exit {
     Nowhere,
     At { index: usize, bound: f64 },
 }
 
 // The exit found so far, with the fraction of the move at which it lies.
-#[derive(Drop)]
+#[derive(Clone, Copy)]
 enum First {
     Nothing,
     At {

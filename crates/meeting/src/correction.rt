@@ -10,7 +10,7 @@ use solve::{Solution3, Solved3, Solved4};
 
 // What is solved beside S1(u1, v1) = S2(u2, v2): nothing (the minimum-norm correction), a plane through a point with a normal, or a
 // parameter held at its value.
-#[derive(Drop)]
+#[derive(Clone, Copy)]
 pub enum Target {
     Free,
     Plane { origin: Point3D, normal: Vector3D },
@@ -18,7 +18,7 @@ pub enum Target {
 }
 
 // The parameters, the difference of the two points there, the offset from the plane, and the sum of the squares.
-#[derive(Drop)]
+#[derive(Clone, Copy)]
 pub struct Residual {
     pub x: Parameters,
     pub f: Vector3D,
@@ -27,7 +27,7 @@ pub struct Residual {
 }
 
 // The derivatives of the difference by the four parameters.
-#[derive(Drop)]
+#[derive(Clone, Copy)]
 pub struct Columns {
     pub c0: Vector3D,
     pub c1: Vector3D,
@@ -36,7 +36,7 @@ pub struct Columns {
 }
 
 // The change of the parameters, or the column at which the solver gave up.
-#[derive(Drop)]
+#[derive(Clone, Copy)]
 pub enum Correction {
     By(Parameters),
     Singular(u64),

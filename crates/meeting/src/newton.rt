@@ -14,21 +14,21 @@ const MOST_TRIALS: usize = 12;
 const MOST_ROUNDS: u64 = 32;
 
 // Where the surfaces were met, or why they were not.
-#[derive(Drop)]
+#[derive(Clone, Copy)]
 pub enum Met {
     At(Parameters),
     Refused(Refusal),
 }
 
 // The first trial with strictly smaller merit, if there is one.
-#[derive(Drop)]
+#[derive(Clone, Copy)]
 pub enum Trial {
     Better(Residual),
     Nothing,
 }
 
 // What a round gives: the residual to go on with, or the answer.
-#[derive(Drop)]
+#[derive(Clone, Copy)]
 pub enum Round {
     Next(Residual),
     End(Met),

@@ -7,7 +7,7 @@ use geometry::{Frame3D, Vector3D};
 use refusal::{Refusal, Verdict};
 
 // A parameter's window and turn mark. A marked parameter has a period: its window is tested by fitness and then not applied.
-#[derive(Drop)]
+#[derive(Clone, Copy)]
 pub struct Window {
     pub low: f64,
     pub high: f64,
@@ -15,7 +15,7 @@ pub struct Window {
 }
 
 // A surface with the windows and turn marks of its two parameters.
-#[derive(Drop)]
+#[derive(Clone, Copy)]
 pub struct Patch {
     pub surface: Surface,
     pub u: Window,
@@ -23,7 +23,7 @@ pub struct Patch {
 }
 
 // The parameters of a pair of points: u and v on surface A, then on B.
-#[derive(Drop)]
+#[derive(Clone, Copy)]
 pub struct Parameters {
     pub u1: f64,
     pub v1: f64,

@@ -6,7 +6,7 @@ use geometry::Point3D;
 use refusal::{Refusal, Verdict};
 
 // The answer of the public point.
-#[derive(Drop)]
+#[derive(Clone, Copy)]
 pub enum Located {
     At(Point3D),
     Refused(Refusal),

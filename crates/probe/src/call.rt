@@ -11,7 +11,7 @@ use geometry::{Frame3D, Point3D, Tolerance, Vector3D};
 use patch::{Parameters, Patch, Window};
 
 // What every function asks.
-#[derive(Drop)]
+#[derive(Clone, Copy)]
 pub struct Call {
     pub a: Patch,
     pub b: Patch,

@@ -7,7 +7,7 @@ ghost use Rattle.std.specs.Float.Ieee.{to_unsigned};
 ghost use Rattle.reduction.specs.Reduction.{npio2hw, rem_pio2, above_of, below_of, medium_of, negated_of, first_difference, next_difference, careful_of, refined_of};
 
 // The quadrant, n modulo 4, and the angle that is left: y0 with its tail y1.
-#[derive(Drop)]
+#[derive(Clone, Copy)]
 pub struct Reduction {
     pub quadrant: u64,
     pub y0: f64,
@@ -15,14 +15,14 @@ pub struct Reduction {
 }
 
 // What the reduction answers; the angles beyond reach have no answer.
-#[derive(Drop)]
+#[derive(Clone, Copy)]
 pub enum Reduced {
     To(Reduction),
     Beyond,
 }
 
 // A difference r - w that is not taken yet.
-#[derive(Drop)]
+#[derive(Clone, Copy)]
 struct Difference {
     r: f64,
     w: f64,

@@ -4,7 +4,7 @@
 ghost use Rattle.std.specs.Prelude.{◌≡◌};
 ghost use Rattle.refusal.specs.Refusal.{alone, of_point, in_round, in_column, numbers_of, number_of};
 
-#[derive(Drop)]
+#[derive(Clone, Copy)]
 pub enum Refusal {
     // Of a surface: a number of the frame or a size, a wrong size, a window, a turn mark.
     Number,
@@ -35,7 +35,7 @@ pub enum Refusal {
 }
 
 // A refusal's number, and what some add to it: the index of a point, a Newton round, the column of a solve. 0 where it adds none.
-#[derive(Drop)]
+#[derive(Clone, Copy)]
 pub struct Numbers {
     pub number: u64,
     pub index: u64,
@@ -44,7 +44,7 @@ pub struct Numbers {
 }
 
 // What tests say: all passed, or the first refusal.
-#[derive(Drop)]
+#[derive(Clone, Copy)]
 pub enum Verdict {
     Passed,
     Refused(Refusal),

@@ -5,14 +5,14 @@ ghost use Rattle.std.specs.Prelude.{◌≡◌};
 ghost use Rattle.solve.specs.Cramer.{gives_up, determinant_of, scale2_of, cramer_of, solve2_of};
 
 // The two unknowns.
-#[derive(Drop)]
+#[derive(Clone, Copy)]
 pub struct Solution2 {
     pub x0: f64,
     pub x1: f64,
 }
 
 // The solution, or that the solver gave up.
-#[derive(Drop)]
+#[derive(Clone, Copy)]
 pub enum Solved2 {
     Solution(Solution2),
     Singular,

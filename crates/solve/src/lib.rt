@@ -16,7 +16,7 @@ ghost use Rattle.solve.specs.Solve.{eliminated_of, substituted, back_substitutio
 pub const SOLVER_TOL: f64 = 1e-12;
 
 // The unknowns, from the first on.
-#[derive(Drop)]
+#[derive(Clone, Copy)]
 pub struct Solution3 {
     pub x0: f64,
     pub x1: f64,
@@ -24,7 +24,7 @@ pub struct Solution3 {
 }
 
 // The unknowns, from the first on.
-#[derive(Drop)]
+#[derive(Clone, Copy)]
 pub struct Solution4 {
     pub x0: f64,
     pub x1: f64,
@@ -33,14 +33,14 @@ pub struct Solution4 {
 }
 
 // The solution, or the column, from 0, at which the solver gave up.
-#[derive(Drop)]
+#[derive(Clone, Copy)]
 pub enum Solved3 {
     Solution(Solution3),
     Singular(u64),
 }
 
 // The solution, or the column, from 0, at which the solver gave up.
-#[derive(Drop)]
+#[derive(Clone, Copy)]
 pub enum Solved4 {
     Solution(Solution4),
     Singular(u64),
@@ -59,7 +59,7 @@ fn magnitudes(row: &[f64], n: usize, sum: f64) -> f64
 }
 
 // A row, and its entry in the column that is looked at.
-#[derive(Drop)]
+#[derive(Clone, Copy)]
 struct Held {
     row: usize,
     entry: f64,

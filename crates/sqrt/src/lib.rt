@@ -18,25 +18,25 @@ const TO_25: f64 = 201326591.99999997;
 const TO_52: f64 = 1.5000000298023224;
 
 // The coefficients of c0 + c1 * f - c2 * f ^ 2 + c3 * f ^ 3.
-#[derive(Drop)]
+#[derive(Clone, Copy)]
 struct Cubic(f64, f64, f64, f64);
 
 // A candidate for the digits of a root, high * 2 ^ 27 + low: high is in the last 27 bits of the one number, low in the last 28 of the other.
-#[derive(Drop)]
+#[derive(Clone, Copy)]
 struct Halves {
     cut: f64,
     rest: f64,
 }
 
 // A significand of 53 digits, and what stands for its exponent.
-#[derive(Drop)]
+#[derive(Clone, Copy)]
 struct Significand {
     m: u64,
     g: u64,
 }
 
 // A root's whole part, and what the number has more than its square.
-#[derive(Drop)]
+#[derive(Clone, Copy)]
 struct Rooted {
     root: u64,
     rest: u64,

@@ -22,7 +22,7 @@ const CURVATURE_GROWTH: f64 = 4.0;
 
 // Where a half stands: the parameters and A's point of the last point kept, the direction in which it goes on, and the curvature of the
 // last step (0 before the first).
-#[derive(Drop)]
+#[derive(Clone, Copy)]
 pub struct Walker {
     pub x: Parameters,
     pub p: Point3D,
@@ -32,7 +32,7 @@ pub struct Walker {
 
 // What a stride leads to: a point within the windows, where the half stands next, with the stride's length; a point on a window's edge; or
 // nothing.
-#[derive(Drop)]
+#[derive(Clone, Copy)]
 pub enum Stride {
     Inner { next: Walker, length: f64 },
     Edge { y: Parameters, q: Point3D },

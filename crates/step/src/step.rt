@@ -10,7 +10,7 @@ use patch::{Parameters, Patch};
 
 // What a half does next: it goes on from a new point with a stride's length to try; it closes, the last point being removed first or
 // not; it ends on an edge point; or it ends without a further point.
-#[derive(Drop)]
+#[derive(Clone, Copy)]
 pub enum Stepped {
     Onward { next: Walker, length: f64 },
     Closed(bool),

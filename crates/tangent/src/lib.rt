@@ -11,7 +11,7 @@ use geometry::{Tolerance, Vector3D};
 use patch::{Parameters, Patch};
 
 // The unit tangent, or that the surfaces are too nearly parallel for one.
-#[derive(Drop)]
+#[derive(Clone, Copy)]
 pub enum Direction {
     Along(Vector3D),
     Missing,

@@ -9,7 +9,7 @@ use crate::layout;
 use refusal::{Refusal, Verdict};
 
 // What a writer answers: how many bytes the file has, or why it is refused.
-#[derive(Drop)]
+#[derive(Clone, Copy)]
 pub enum Written {
     Bytes(usize),
     Refused(Refusal),

@@ -14,7 +14,7 @@ use step::step::step;
 use step::{Stepped, Walker, first_stride};
 
 // How many points a half holds, and whether it ended on the start.
-#[derive(Drop)]
+#[derive(Clone, Copy)]
 pub struct Reached {
     pub count: usize,
     pub closed: bool,

@@ -15,6 +15,6 @@ unfolding refined_of
 returns c =
     rw c.careful.ensures
     (elim c.else-whole-lt32.branch [
-      else-whole-lt32-via-then-whole-lt32+else-ix-npio2_hw w ↦ rw (lt-ltb _ _ w.if-whole-lt32.true, ← w.npio2_hw.ensures, w.if-ix-npio2_hw.false-raw)
+      | else-whole-lt32-via-then-whole-lt32+else-ix-npio2_hw w ↦ rw (lt-ltb _ _ w.if-whole-lt32.true, ← w.npio2_hw.ensures, w.if-ix-npio2_hw.false-raw)
       | else-whole-lt32-via-else-whole-lt32 w ↦ rw (le-ltb _ _ w.if-whole-lt32.false)
     ])

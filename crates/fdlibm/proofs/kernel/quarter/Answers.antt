@@ -11,8 +11,7 @@ use lib.Arith.{le→nltb}
 use lib.Ieee.{binary64, nan_bits}
 use lib.Ieee.Bits.{nan_bits_above}
 use Rattle.fdlibm.specs.Kernel.{qx_of}
-use Rattle.fdlibm.proofs.kernel.quarter.Statement.{statement}
-use Rattle.fdlibm.proofs.kernel.quarter.Tie as tie
+use Rattle.fdlibm.proofs.kernel.quarter.Goals as goal
 
 exact : (ix : ℕ) → ix ≤ 0x3fe90000 → (ix - 0x00200000) * 2 ^ 32 % 2 ^ 64 ≡ (ix - 0x00200000) * 2 ^ 32
 exact ix h = mod-eq_of_lt (omega arith)
@@ -22,19 +21,13 @@ no_nan ix h =
     let b = (ix - 0x00200000) * 2 ^ 32 in
     subst (λ (t : Bool). T (not t)) (sym (nan_bits_above binary64 b)) (le→nltb 0x7ff0000000000000 (b % 2 ^ 63) (omega arith))
 
-sub-result : tie.Need-overflow-sub-result
-sub-result c = search rules
+pub float_from_bits-result : goal.float_from_bits-result
+float_from_bits-result c = subst (λ (n : ℕ). T (not (nan_bits binary64 n))) (sym (exact _ c.if-ix-gt1072234496.false)) (no_nan _ c.if-ix-gt1072234496.false)
 
-float-from-bits-result : tie.Need-float-from-bits-result
-float-from-bits-result c = subst (λ (n : ℕ). T (not (nan_bits binary64 n))) (sym (exact _ c.if1.false)) (no_nan _ c.if1.false)
-
-returns : tie.Need-returns
+pub returns-then-ix-gt1072234496 : goal.returns-then-ix-gt1072234496
 unfolding qx_of
-returns c = rw (lt-ltb _ _ c.if1.true)
+returns-then-ix-gt1072234496 c = rw (lt-ltb _ _ c.if-ix-gt1072234496.true)
 
-returns-2 : tie.Need-returns-2
+pub returns-else-ix-gt1072234496 : goal.returns-else-ix-gt1072234496
 unfolding qx_of
-returns-2 c = rw (exact _ c.if1.false, le-ltb _ _ c.if1.false)
-
-pub quarter-spec : {M : Type 1} → statement M
-quarter-spec = tie.close (tie.spec sub-result float-from-bits-result returns returns-2)
+returns-else-ix-gt1072234496 c = rw (exact _ c.if-ix-gt1072234496.false, le-ltb _ _ c.if-ix-gt1072234496.false)

@@ -1,0 +1,6 @@
+-- Both come from one call.
+use borrow.Author.Rules.{rules}
+use Rattle.fdlibm.proofs.sin_cos.Goals as goal
+
+pub returns : goal.returns
+returns c = (c.both-at.ensures.0, c.both-at.ensures.1)
