@@ -18,6 +18,6 @@ unfolding quotient_of
 returns c =
     rw (c.atan.ensures, c.abs.ensures, lt-leb _ _ c.if-ix-iy.false)
     (elim c.else-x_sign-eq1.branch [
-      else-x_sign-eq1-via-then-x_sign-eq1+else-iy-ix w ↦ rw (w.if-x_sign-eq1.true, w.if-iy-ix.false-raw)
+      | else-x_sign-eq1-via-then-x_sign-eq1+else-iy-ix w ↦ rw (w.if-x_sign-eq1.true, w.if-iy-ix.false-raw)
       | else-x_sign-eq1-via-else-x_sign-eq1 w ↦ rw (ne_eqb _ _ w.if-x_sign-eq1.false)
     ])
