@@ -1,0 +1,16 @@
+-- The search goes on as the definition's does.
+use mathlib.Core.Path.{◌≡◌, refl, ◌∙◌}
+use Prim.Native.Nat.{◌-◌, ◌≤◌}
+use Rattle.loops.specs.Any.{any_in}
+use Rattle.loops.proofs.Any.{any_again, any_leave, any_done}
+use Rattle.boxes.specs.Crosses.{segment_meets, some_segment}
+use Rattle.boxes.proofs.Iterations.{segment_iteration}
+use borrow.Author.Rules.{rules}
+use native.Mathlib.Omega.{arith}
+use Rattle.boxes.proofs.marching.some_segment.Given as goal
+
+abbrev pub invariant-loop-i : goal.invariant-loop-i
+invariant-loop-i l = (any_in (segment_meets l.points l.b) l.i (l.count - 1) ≡ some_segment l.points l.count l.b) × (l.i ≤ l.count - 1)
+
+abbrev pub decreases-loop-i : goal.decreases-loop-i
+decreases-loop-i l = l.count - 1 - l.i

@@ -1,0 +1,5 @@
+use borrow.Author.Rules.{rules}
+use Rattle.trace_file.proofs.read.count_in.Goals as goal
+
+pub returns : goal.returns
+returns c = c.two.ensures

@@ -1,0 +1,16 @@
+use mathlib.Core.Path.{◌≡◌, refl, ap, ◌∙◌}
+use Prim.Native.Nat.{ℕ, ◌-◌, ◌≤◌}
+use native.Mathlib.Omega.{arith}
+use lib.ListN.{length, length-set}
+use borrow.Author.Rules.{rules}
+use Rattle.trace_file.specs.File.{numbers_from}
+use Rattle.trace_file.specs.Layout.{numbers_place}
+use Rattle.loops.specs.Over.{written}
+use Rattle.trace_file.proofs.Numbers.{get_again}
+use Rattle.trace_file.proofs.read.get_numbers.Given as goal
+
+abbrev pub invariant-loop-k : goal.invariant-loop-k
+invariant-loop-k l = (l.numbers ≡ written (numbers_from l.file numbers_place l.k) l.initial.numbers) × (l.k ≤ l.n) × (length l.numbers ≡ length l.initial.numbers)
+
+abbrev pub decreases-loop-k : goal.decreases-loop-k
+decreases-loop-k l = l.n - l.k

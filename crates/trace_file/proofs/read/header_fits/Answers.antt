@@ -1,0 +1,40 @@
+use borrow.Author.Tests.{eq-eqb, ne_eqb, le-leb, lt-leb}
+use borrow.Author.Rules.{rules}
+use Rattle.trace_file.specs.Layout.{numbers_place}
+use Rattle.trace_file.specs.File.{header_fits}
+use Rattle.loops.proofs.Choice.{and_taken, and_left}
+use Rattle.trace_file.proofs.read.header_fits.Goals as goal
+
+pub returns-then-file-lt-NUMBERS : goal.returns-then-file-lt-NUMBERS
+unfolding header_fits
+returns-then-file-lt-NUMBERS c = rw (lt-leb numbers_place _ c.if-file-lt-NUMBERS.true)
+
+pub returns-then-one-version : goal.returns-then-one-version
+unfolding header_fits
+returns-then-one-version c = rw (le-leb numbers_place _ c.if-file-lt-NUMBERS.false, ← c.one.ensures.0, ne_eqb c.one.result _ c.if-one-version.true)
+
+pub returns-then-claim_fits : goal.returns-then-claim_fits
+unfolding header_fits
+returns-then-claim_fits c =
+    rw (
+      le-leb numbers_place _ c.if-file-lt-NUMBERS.false,
+      ← c.one.ensures.0,
+      eq-eqb c.one.result _ c.if-one-version.false,
+      ← c.count_in.ensures.0,
+      ← c.start_in.ensures,
+      ← c.code_in.ensures,
+    )
+    (and_taken c.claim_fits.ensures c.if-claim_fits.true c.length_agrees.ensures)
+
+pub returns-else-claim_fits : goal.returns-else-claim_fits
+unfolding header_fits
+returns-else-claim_fits c =
+    rw (
+      le-leb numbers_place _ c.if-file-lt-NUMBERS.false,
+      ← c.one.ensures.0,
+      eq-eqb c.one.result _ c.if-one-version.false,
+      ← c.count_in.ensures.0,
+      ← c.start_in.ensures,
+      ← c.code_in.ensures,
+    )
+    (and_left _ c.claim_fits.ensures c.if-claim_fits.false)

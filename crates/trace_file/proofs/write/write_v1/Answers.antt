@@ -1,0 +1,5 @@
+use borrow.Author.Rules.{rules}
+use Rattle.trace_file.proofs.write.write_v1.Goals as goal
+
+pub returns : goal.returns
+returns c = c.write.ensures
