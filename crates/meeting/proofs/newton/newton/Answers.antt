@@ -1,0 +1,47 @@
+-- The loop's invariant: the rounds left give what all of them give.
+use mathlib.Core.Path.{◌≡◌, refl, sym, ap, ◌∙◌}
+use Prim.Native.Nat.{ℕ, ◌-◌, ◌≤◌}
+use borrow.Author.Rules.{rules}
+use native.Mathlib.Omega.{arith}
+use lib.Ieee.{Float}
+use Rattle.loops.proofs.Loop.{searched_again, searched_leave, searched_done}
+use Rattle.patch.specs.declared.patch.Patch.{Patch}
+use Rattle.meeting.specs.declared.correction.Target.{Target}
+use Rattle.meeting.specs.declared.correction.Residual.{Residual}
+use Rattle.meeting.specs.declared.newton.Round.{Round}
+use Rattle.meeting.specs.Newton.{newton_round, most_rounds, going_on, round_body, rounds_from, newton_of}
+use Rattle.meeting.proofs.newton.newton.Goals as goal
+use Rattle.meeting.proofs.newton.newton.Goals.{After-residual_at-s}
+
+-- what a round says to the loop
+said : (a b : Patch) (target : Target) (confusion : Float) (i : ℕ) (s : Residual) {r q : Round} → r ≡ newton_round a b target confusion i s → r ≡ q
+    → round_body a b target confusion i s ≡ going_on q
+said a b target confusion i s e f = ap going_on (sym e ∙ f)
+
+-- the first state is that of the definition
+start_is : (c : After-residual_at-s)
+    → rounds_from c.args.a c.args.b c.args.target c.args.confusion 0 c.residual_at-s.result
+    ≡ newton_of c.args.a c.args.b c.args.target c.args.x c.args.confusion
+unfolding newton_of
+start_is c = rw c.residual_at-s.ensures
+
+pub loop-i-init : goal.loop-i-init
+loop-i-init c = (refl, omega arith)
+
+pub returns-in-End : goal.returns-in-End
+returns-in-End c = searched_leave _ _ _ most_rounds c.loop-i-test.true (said _ _ _ _ c.loop-i.i _ c.newton_round-round.ensures c.in-End.is) c.loop-i.invariant.0 ∙ start_is (goal.at.returns-in-End c).After-residual_at-s
+
+pub overflow_step-i : goal.overflow_step-i
+overflow_step-i c = omega (arith, c.loop-i-test.true)
+
+pub loop-i-smaller : goal.loop-i-smaller
+loop-i-smaller c = omega (arith, c.loop-i-test.true)
+
+pub loop-i-preserved : goal.loop-i-preserved
+loop-i-preserved c = (
+  searched_again _ _ _ most_rounds c.loop-i-test.true (said _ _ _ _ c.loop-i.i _ c.newton_round-round.ensures c.in-Next.is) c.loop-i.invariant.0,
+  omega (arith, c.loop-i-test.true),
+)
+
+pub returns : goal.returns
+returns c = c.last_test.ensures ∙ searched_done _ _ _ most_rounds c.loop-i-test.false c.loop-i.invariant.0 ∙ start_is (goal.at.returns c).After-residual_at-s

@@ -1,0 +1,36 @@
+-- The loop's invariant: the trials left give what all of them give.
+use mathlib.Core.Path.{◌≡◌, refl, sym}
+use Prim.Native.Nat.{◌-◌, ◌≤◌}
+use borrow.Author.Rules.{rules}
+use native.Mathlib.Omega.{arith}
+use Rattle.loops.proofs.Choice.{pick_taken, pick_left}
+use Rattle.loops.proofs.Loop.{searched_again, searched_leave, searched_done}
+use Rattle.meeting.specs.Newton.{most_trials, trials_from, trials_of}
+use Rattle.meeting.proofs.newton.trials.Goals as goal
+
+pub loop-init : goal.loop-init
+unfolding trials_of
+loop-init c = (refl, omega arith)
+
+pub returns-then-t-s : goal.returns-then-t-s
+returns-then-t-s c =
+    searched_leave _ _ _ most_trials c.loop-test.true
+    (rw (← c.shifted.ensures, ← c.within_bounds-y.ensures, ← c.residual_at-t.ensures) (sym (pick_taken _ c.if-t-s.true refl)))
+    c.loop.invariant.0
+
+pub overflow_step : goal.overflow_step
+overflow_step c = omega (arith, c.loop-test.true)
+
+pub loop-smaller : goal.loop-smaller
+loop-smaller c = omega (arith, c.loop-test.true)
+
+pub loop-preserved : goal.loop-preserved
+loop-preserved c = (
+  searched_again _ _ _ most_trials c.loop-test.true
+      (rw (← c.shifted.ensures, ← c.within_bounds-y.ensures, ← c.residual_at-t.ensures) (sym (pick_left _ c.if-t-s.false refl)))
+      c.loop.invariant.0,
+  omega (arith, c.loop-test.true),
+)
+
+pub returns : goal.returns
+returns c = searched_done _ _ _ most_trials c.loop-test.false c.loop.invariant.0

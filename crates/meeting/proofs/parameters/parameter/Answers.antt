@@ -1,0 +1,19 @@
+use borrow.Author.Tests.{eq-eqb, ne_eqb}
+use Rattle.meeting.specs.Correction.{parameter_of}
+use Rattle.meeting.proofs.parameters.parameter.Goals as goal
+
+pub returns-then-k-eq0 : goal.returns-then-k-eq0
+unfolding parameter_of
+returns-then-k-eq0 c = rw (eq-eqb _ _ c.if-k-eq0.true)
+
+pub returns-then-k-eq1 : goal.returns-then-k-eq1
+unfolding parameter_of
+returns-then-k-eq1 c = rw (eq-eqb _ _ c.if-k-eq1.true, ne_eqb _ _ c.if-k-eq0.false)
+
+pub returns-then-k-eq2 : goal.returns-then-k-eq2
+unfolding parameter_of
+returns-then-k-eq2 c = rw (eq-eqb _ _ c.if-k-eq2.true, ne_eqb _ _ c.if-k-eq1.false, ne_eqb _ _ c.if-k-eq0.false)
+
+pub returns : goal.returns
+unfolding parameter_of
+returns c = rw (ne_eqb _ _ c.if-k-eq2.false, ne_eqb _ _ c.if-k-eq1.false, ne_eqb _ _ c.if-k-eq0.false)
