@@ -11,8 +11,7 @@ use Rattle.number.proofs.Order.{min_right}
 use Rattle.step.specs.Shorten.{longest_stride}
 use Rattle.step.specs.Closing.{next_stride}
 use Rattle.step.proofs.Halving.{tenth_number}
-use Rattle.step.proofs.closing.next_stride.Statement.{statement}
-use Rattle.step.proofs.closing.next_stride.Tie as tie
+use Rattle.step.proofs.closing.next_stride.Goals as goal
 
 -- what is not at most a number leaves it as the minimum
 left_alone : (m y : Float) → T (not (is_nan m)) → (y ≤? m) ≡ false → m ≡ min_of m y
@@ -29,30 +28,12 @@ left_alone m y h e = go (is_nan m) (is_nan y) (y <? m) refl (lt→le y m)
 longest_number : (a : Float) → T (not (is_nan (min_of a longest_stride)))
 longest_number a = (le_numbers _ longest_stride (min_right a longest_stride tenth_number)).0
 
-max-requires : tie.Need-max-requires
-max-requires c κs = search rules
-
-min-requires : tie.Need-min-requires
-min-requires c κs = search rules
-
-at-most-requires : tie.Need-at-most-requires
-at-most-requires c κs = search rules
-
-sqrt-requires : tie.Need-sqrt-requires
-sqrt-requires c κs = search rules
-
-min-requires-2 : tie.Need-min-requires-2
-min-requires-2 c κs = search rules
-
-returns : tie.Need-returns
+pub returns-then-at_most : goal.returns-then-at_most
 unfolding next_stride
-returns c = rw (c.min2.ensures, c.before.sqrt.ensures.answer, c.before.before.before.before.min.ensures, c.before.before.before.before.before.max.ensures)
+returns-then-at_most c = rw (c.min.ensures, c.sqrt.ensures.answer, c.min-longest.ensures, c.max.ensures)
 
-returns-2 : tie.Need-returns-2
+pub returns-else-at_most : goal.returns-else-at_most
 unfolding next_stride
-returns-2 c =
-    rw (← c.before.before.before.max.ensures, ← c.before.before.min.ensures)
-    (left_alone _ _ (rw c.before.before.min.ensures (longest_number _)) (sym c.before.at_most.ensures ∙ c.if1.false))
-
-pub next-stride-spec : {M : Type 1} → statement M
-next-stride-spec = tie.close (tie.spec max-requires min-requires at-most-requires sqrt-requires min-requires-2 returns returns-2)
+returns-else-at_most c =
+    rw (← c.max.ensures, ← c.min-longest.ensures)
+    (left_alone _ _ (rw c.min-longest.ensures (longest_number _)) (sym c.at_most.ensures ∙ c.if-at_most.false))

@@ -1,0 +1,16 @@
+use borrow.Author.Tests.{lt-ltb, le-ltb}
+use Rattle.certificate.specs.Check.{claim_so}
+use borrow.Author.Rules.{rules}
+use Rattle.certificate.proofs.check.claim_so.Goals as goal
+
+pub returns-then-start-count : goal.returns-then-start-count
+unfolding claim_so
+returns-then-start-count c = rw (← c.count_fits.ensures, c.if-count_fits.true, lt-ltb _ _ c.if-start-count.true) c.closing_so.ensures
+
+pub returns-else-start-count : goal.returns-else-start-count
+unfolding claim_so
+returns-else-start-count c = rw (← c.count_fits.ensures, c.if-count_fits.true, le-ltb _ _ c.if-start-count.false)
+
+pub returns-else-count_fits : goal.returns-else-count_fits
+unfolding claim_so
+returns-else-count_fits c = rw (← c.count_fits.ensures, c.if-count_fits.false)
