@@ -1,0 +1,7 @@
+use borrow.Author.Rules.{rules}
+use Rattle.walk.specs.Line.{first_walker}
+use Rattle.walk.proofs.half.first_walker.Goals as goal
+
+pub returns : goal.returns
+unfolding first_walker
+returns c = rw c.scale.ensures

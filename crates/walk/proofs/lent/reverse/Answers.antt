@@ -1,0 +1,33 @@
+-- i points at each end are exchanged, those between are as they were
+use mathlib.Core.Path.{◌≡◌, refl, ◌∙◌}
+use Prim.Native.Nat.{◌-◌, ◌≤◌, ◌<◌, ◌*◌, ◌/◌}
+use native.Mathlib.Omega.{arith}
+use borrow.Author.Rules.{rules}
+use lib.ListN.{length}
+use Rattle.groups.specs.Groups.{width}
+use Rattle.groups.proofs.Rows.{row_there}
+use Rattle.walk.proofs.Reversal.{Reversing, reversing_start, reversing_again, reversing_done}
+use Rattle.walk.proofs.lent.reverse.Goals as goal
+
+pub loop-i-init : goal.loop-i-init
+loop-i-init c = (reversing_start _ _, (omega arith, refl))
+
+pub loop-i-preserved : goal.loop-i-preserved
+loop-i-preserved c =
+    let st = p.before.before in
+    let k = st.args.k in
+    let i = p.loop.i in
+    let l : length p.loop.points ≡ width * k = p.loop.invariant.0.size ∙ st.requires.0 in
+    let h : i < k / 2 = omega (arith, t.loop-test.true) in (
+      reversing_again k i st.args.points.now p.loop.points st.requires.0 h p.loop.invariant.0
+          (r₁.row_of.ensures ∙ row_there p.loop.points i (omega (arith, l, h)))
+          (c.row_of-high.ensures ∙ row_there p.loop.points (k - 1 - i) (omega (arith, l, h)))
+          c.put.ensures c.put-in-loop-i.ensures,
+      (omega (arith, h), p.loop.invariant.1.1),
+    )
+
+pub shape_of-points : goal.shape_of-points
+shape_of-points c = c.loop-i.invariant.0.size
+
+pub returns : goal.returns
+returns c = reversing_done c.args.k c.loop-i.i c.args.points.now c.loop-i.points c.requires.0 (omega (arith, c.loop-i-test.false)) c.loop-i.invariant.1.0 c.loop-i.invariant.0

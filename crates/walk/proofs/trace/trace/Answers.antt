@@ -1,0 +1,48 @@
+use mathlib.Core.Path.{sym, ap, ◌∙◌}
+use mathlib.Core.List.{◌++◌}
+use native.Mathlib.Omega.{arith}
+use borrow.Author.Rules.{rules}
+use lib.ListN.{drop}
+use lib.Seq.{length-take-le}
+use Rattle.groups.specs.Traced.{Outcome, outcome}
+use Rattle.walk.specs.Trace.{room, trace_of}
+use Rattle.walk.proofs.Calls.{CallFit, call_fit}
+use Rattle.walk.proofs.trace.trace.Goals as goal
+use Rattle.walk.proofs.trace.trace.Goals.{In-Passed, Start}
+
+-- where nothing is refused
+module _ (c : In-Passed) where
+  abbrev start : Start
+  start = c.before.before.before.before.before
+
+  fit : CallFit start.args.a start.args.b start.args.tol start.args.cap start.args.buffer.now
+  fit = call_fit start.args.guess (sym c.call_fitness-fitness.ensures ∙ c.in-Passed.is)
+
+pub overflow_mul-room : goal.overflow_mul-room
+overflow_mul-room c = omega (arith, (fit c).cap)
+
+pub overflow_add-room : goal.overflow_add-room
+overflow_add-room c = omega (arith, (fit c).cap)
+
+pub overflow_mul-room-in-Passed : goal.overflow_mul-room-in-Passed
+overflow_mul-room-in-Passed c = omega (arith, (fit c).cap)
+
+pub slice_bounds-walk_from-end : goal.slice_bounds-walk_from-end
+slice_bounds-walk_from-end c = omega (arith, (fit c).lent)
+
+pub slice_bounds-walk_from-end-in-Passed : goal.slice_bounds-walk_from-end-in-Passed
+slice_bounds-walk_from-end-in-Passed c = sym (length-take-le _ _ (omega (arith, (fit (goal.at.slice_bounds-walk_from-end-in-Passed c).In-Passed).lent)))
+
+pub walk_from-requires : goal.walk_from-requires
+walk_from-requires c = ((fit (goal.at.walk_from-requires c).In-Passed).cap, length-take-le _ _ (omega (arith, (fit (goal.at.walk_from-requires c).In-Passed).lent)))
+
+pub returns-in-Refused : goal.returns-in-Refused
+unfolding trace_of
+returns-in-Refused c = rw (← c.call_fitness-fitness.ensures, c.in-Refused.is)
+
+pub returns-in-Passed : goal.returns-in-Passed
+unfolding trace_of
+returns-in-Passed c =
+    let g = (start (goal.at.returns-in-Passed c).In-Passed).args in
+    rw (← c.call_fitness-fitness.ensures, c.in-Passed.is)
+    (ap (λ (o : Outcome). outcome o.answer (o.buffer ++ drop (room g.cap) g.buffer.now)) c.walk_from.ensures)

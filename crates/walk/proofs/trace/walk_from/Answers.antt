@@ -1,0 +1,60 @@
+-- A law for each way out, from what the meeting and the tangent say.
+use mathlib.Core.Path.{◌≡◌, refl, sym, ap, ◌∙◌}
+use mathlib.Core.List.{List, ◌++◌}
+use Prim.Native.Nat.{ℕ, ◌-◌}
+use borrow.Author.Rules.{rules}
+use lib.Ieee.{Float}
+use lib.ListN.{length, take, replicate}
+use Rattle.number.specs.Helpers.{positive_zero}
+use Rattle.refusal.specs.declared.Refusal.{Refusal}
+use Rattle.refusal.specs.declared.Refusal.TheVariants as refusal
+use Rattle.geometry.specs.declared.vector.Vector3D.{Vector3D}
+use Rattle.geometry.specs.declared.tolerance.Tolerance.{Tolerance}
+use Rattle.patch.specs.declared.patch.Patch.{Patch}
+use Rattle.patch.specs.declared.patch.Parameters.{Parameters}
+use Rattle.meeting.specs.declared.newton.Met.TheVariants as met
+use Rattle.meeting.specs.Newton.{meet_of}
+use Rattle.tangent.specs.declared.Direction.TheVariants as direction
+use Rattle.tangent.specs.Tangent.{tangent_of}
+use Rattle.walk.specs.Lent.{own_row}
+use Rattle.walk.specs.Line.{line_of}
+use Rattle.groups.specs.declared.traced.Traced.{Traced}
+use Rattle.groups.specs.declared.traced.Traced.TheVariants.{Refused}
+use Rattle.groups.specs.Traced.{outcome}
+use Rattle.walk.specs.Trace.{room, refused_walk, settled, unwalked_of, walk_of}
+use Rattle.walk.proofs.Lists.{cleared}
+use Rattle.walk.proofs.trace.walk_from.Goals as goal
+
+module _ (a b : Patch) (tol : Tolerance) (guess : Parameters) (n : ℕ) where
+  unmet : (r : Refusal) → meet_of a b guess tol ≡ met.Refused r → refused_walk r n ≡ walk_of a b tol guess n
+  unfolding walk_of
+  unmet r m = rw m
+
+  ten : (x : Parameters) → meet_of a b guess tol ≡ met.At x → tangent_of a b x tol ≡ direction.Missing → refused_walk refusal.NoDirection n ≡ walk_of a b tol guess n
+  unfolding walk_of
+  ten x m d = rw (m, d)
+
+  along : (x : Parameters) (t : Vector3D) → meet_of a b guess tol ≡ met.At x → tangent_of a b x tol ≡ direction.Along t → settled (own_row a) n (line_of a b tol x t n) ≡ walk_of a b tol guess n
+  unfolding walk_of
+  along x t m d = rw (m, d)
+
+-- a refusal leaves zeros
+zeros : (l : List Float) (n : ℕ) {m : List Float} {t : Traced} (r : Refusal) → t ≡ Refused r → length l ≡ room n → m ≡ take 0 l ++ replicate (length l - 0) positive_zero
+    → outcome t m ≡ refused_walk r n
+zeros l n r f h e = rw f (ap (outcome (Refused r)) (e ∙ cleared l ∙ ap (λ (k : ℕ). replicate k positive_zero) h))
+
+pub returns-in_default : goal.returns-in_default
+returns-in_default c =
+    zeros c.args.points.now _ _ (c.unwalked.ensures ∙ ap unwalked_of c.in_default.is) c.requires.1 c.clear.ensures
+    ∙ unmet _ _ _ _ _ _ (sym c.meet-met.ensures.answer ∙ c.in_default.is)
+
+pub returns-in_default-tangent : goal.returns-in_default-tangent
+returns-in_default-tangent c =
+    zeros c.args.points.now _ _ refl c.requires.1 c.clear-in_default-tangent.ensures
+    ∙ ten _ _ _ _ _ _ (sym c.meet-met.ensures.answer ∙ c.in-At.is) (sym c.tangent.ensures ∙ c.in_default-tangent.is)
+
+pub line-requires : goal.line-requires
+line-requires c = (c.eval_point-p.ensures, c.requires)
+
+pub returns : goal.returns
+returns c = c.line.ensures ∙ along _ _ _ _ _ _ _ (sym c.meet-met.ensures.answer ∙ c.in-At.is) (sym c.tangent.ensures ∙ c.in-Along.is)
