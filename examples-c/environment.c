@@ -2,7 +2,7 @@
  * standard input, traced in several modes with and without the guard, against the line of the mode that a program starts with. Lines are
  * checked in that mode. Ends with 1 if a guarded call gives another bit or leaves another mode, or if the guard does not tell the mode.
  * From the repository's root:
- *     rt staticlib capi
+ *     tools/staticlib.sh capi
  *     cc -Iinclude examples-c/environment.c target/staticlib/libcapi.a -o target/environment
  *     tools/job.py docs/example-loop.txt | target/environment                                              */
 #include <geomcore.h>

@@ -1,6 +1,6 @@
 /* How office and unit pass a line: the office walks the line of a job file and writes it to a trace file; the unit, which has the same job,
  * reads the trace file and checks the line before anybody steers by it. From the repository's root:
- *     rt staticlib capi
+ *     tools/staticlib.sh capi
  *     cc -Iinclude examples-c/file.c target/staticlib/libcapi.a -o target/file
  *     tools/job.py docs/example-job.txt target/job
  *     target/file write target/job target/line        # 5 points, start 2, code 0: 290 bytes written

@@ -1,6 +1,6 @@
 /* The point at (u, v) of surface A of a job file on standard input: one line, x y z.
  * From the repository's root:
- *     rt staticlib capi
+ *     tools/staticlib.sh capi
  *     cc -Iinclude examples-c/point.c target/staticlib/libcapi.a -o target/point
  *     tools/job.py docs/example-job.txt | target/point 0.25 0.5                  */
 #include <geomcore.h>

@@ -1,6 +1,6 @@
 /* Reads a job file from standard input, walks its line and writes the points: one a line, x y z.
  * From the repository's root:
- *     rt staticlib capi
+ *     tools/staticlib.sh capi
  *     cc -Iinclude examples-c/trace.c target/staticlib/libcapi.a -o target/trace
  *     tools/job.py docs/example-job.txt | target/trace                                                */
 #include <geomcore.h>

@@ -1,4 +1,4 @@
-/* The proved line where two analytic surfaces meet: the C interface of the archive that `rt staticlib capi` writes (x86-64 Linux).
+/* The proved line where two analytic surfaces meet: the C interface of the archive that `tools/staticlib.sh capi` writes (x86-64 Linux).
  *
  * Units: lengths are in kilometres, angles in radians (docs/RULES.md says which number is which).
  *

@@ -1,4 +1,4 @@
-//! Links the archives of the proved code that `rt staticlib` writes.
+//! Links the archives of the proved code that `tools/staticlib.sh` writes.
 use std::path::Path;
 
 fn main() {

@@ -1,4 +1,4 @@
-//! Links the archive that `rt staticlib capi` writes.
+//! Links the archive that `tools/staticlib.sh capi` writes.
 use std::path::Path;
 
 fn main() {

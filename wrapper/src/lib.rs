@@ -1,4 +1,4 @@
-//! Safe calls of the proved code in the archive that `rt staticlib capi` writes (x86-64 Linux). No dependencies.
+//! Safe calls of the proved code in the archive that `tools/staticlib.sh capi` writes (x86-64 Linux). No dependencies.
 //!
 //! Lengths are in kilometres, angles in radians (docs/RULES.md says which number is which). Unfit input is refused under a number
 //! (docs/RULES.md) and never panics. Surfaces and jobs are the bytes of the job file, which `tools/job.py` writes from readable text.

@@ -1,6 +1,6 @@
 //! The C interface: each function is thin over one of the library below, and its contract is that function's.
 //!
-//! `rt staticlib capi` writes the archive. A slice passes as a pointer and a length.
+//! `tools/staticlib.sh capi` writes the archive. A slice passes as a pointer and a length.
 #![tactic(auto)]
 
 ghost use Rattle.std.specs.Prelude.{◌≡◌, ◌+◌, ◌*◌, ◌≤◌, ◌<◌, length};
