@@ -14,7 +14,7 @@ import re
 import sys
 
 TOKEN = re.compile(r'[^\s(){}.;,@"«»`\[\]]+')
-SIGNED = re.compile(r"(?m)^( *)((?:(?:abbrev|unfoldable|pub) )*)([^\s(){}]+)((?: \{[^{}\n]*\})*) : (.*)$")
+SIGNED = re.compile(r"(?m)^( *)((?:(?:abbrev|unfoldable|pub) )*)([^\s(){}]+)((?: \{[^{}\n]*\})*) :(?: (.*))?$")
 # Lemmas whose new spelling their function has: those get `_lem`.
 LEMMAS = """after-trials all-finite all-passed came-round checked-word chord-fits claim-fits closed-forward cos-series fit-a fit-b header-fits is-own
 last-test most-points point-from point-on refused-line row-eliminated sin-series traced-word with-a with-parameter written-word with-b is-nan
@@ -31,7 +31,7 @@ SPELLED = {
 
 
 def spelled(name):
-    words = re.sub(r"(?<=[a-z0-9])([A-Z])", lambda m: "_" + m[1].lower(), name)
+    words = re.sub(r"(?<=[a-zA-Z0-9])([A-Z])", lambda m: "_" + m[1].lower(), name)
     return re.sub(r"(?<=[\w'])-(?=\w)", "_", words)
 
 
@@ -46,7 +46,7 @@ def names():
     for path in files():
         of_a_function = path.endswith(("/Proof.antt", "/Answers.antt", "/Invariants.antt"))
         for m in SIGNED.finditer(open(path, encoding="utf-8").read()):
-            name, says = m[3], m[5]
+            name, says = m[3], m[5] or ""
             if of_a_function and re.match(r"(tie|goal)\.|\{M : Type 1\} → statement", says):
                 continue
             if name[0].isupper() or not re.match(r"[A-Za-z]", name) or "." in name:

@@ -52,8 +52,8 @@ long =
     ++ at (bits 0x3fb9_9999_9999_999a) (bits 0x3fb9_9999_9999_999a)
 
 -- the first run's box keeps out what the segment test accepts at its last segment, though the whole trace's box is not apart
-pub run-keeps-out :
+pub run_keeps_out :
     (crossing_of tol long 19 box ≡ No) × (segment_meets long (grown_of box tol.confusion) 15 ≡ true)
     × (boxes_apart (bounds_of long 19) (grown_of box tol.confusion) ≡ false)
 unfolding computing
-run-keeps-out = (refl, refl, refl)
+run_keeps_out = (refl, refl, refl)

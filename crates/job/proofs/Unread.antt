@@ -14,7 +14,7 @@ use Rattle.job.specs.declared.file.SurfaceRead.{SurfaceRead}
 use Rattle.job.specs.declared.file.SurfaceRead.TheVariants as surface
 use Rattle.job.specs.declared.file.JobRead.{JobRead}
 use Rattle.job.specs.declared.file.JobRead.TheVariants.{Whole, Refused}
-use Rattle.job.specs.Layout.{job_bytes, following, version_place, surface_aPlace, surface_bPlace}
+use Rattle.job.specs.Layout.{job_bytes, following, version_place, surface_a_place, surface_b_place}
 use Rattle.job.specs.File.{surface_at, with_a, with_b, job_of}
 
 Nineteen : JobRead → Type 0
@@ -28,7 +28,7 @@ with_b_lem s a (surface.Refused r) = refl
 
 with_a_lem : (s : List ℕ) (a : SurfaceRead) → Nineteen (with_a s a)
 unfolding Nineteen
-with_a_lem s (surface.Whole a) = with_b_lem s a (surface_at s surface_bPlace)
+with_a_lem s (surface.Whole a) = with_b_lem s a (surface_at s surface_b_place)
 with_a_lem s (surface.Refused r) = refl
 
 either : (t : Bool) (j : JobRead) → Nineteen j → Nineteen (pick t j (Refused JobFile))
@@ -40,4 +40,4 @@ pub unread : (s : List ℕ) (r : Refusal) → job_of s ≡ Refused r → r ≡ J
 unfolding job_of Nineteen
 unread s r e =
     subst Nineteen e
-    (either (eqb (length s) job_bytes) _ (either (eqb (four_at s 0) following) _ (either (eqb (byte_at s version_place) 1) _ (with_a_lem s (surface_at s surface_aPlace)))))
+    (either (eqb (length s) job_bytes) _ (either (eqb (four_at s 0) following) _ (either (eqb (byte_at s version_place) 1) _ (with_a_lem s (surface_at s surface_a_place)))))

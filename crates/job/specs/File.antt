@@ -18,7 +18,7 @@ use Rattle.job.specs.declared.file.SurfaceRead.TheVariants as surface
 use Rattle.job.specs.declared.file.JobRead.{JobRead}
 use Rattle.job.specs.declared.file.JobRead.TheVariants.{Whole, Refused}
 use Rattle.job.specs.Layout.{marks_place, both_marks, frame_place, first_size_place, second_size_place, u_window_place, v_window_place, surface_bytes}
-use Rattle.job.specs.Layout.{version_place, surface_aPlace, surface_bPlace, confusion_place, angular_place, guess_place, cap_place, job_bytes, following}
+use Rattle.job.specs.Layout.{version_place, surface_a_place, surface_b_place, confusion_place, angular_place, guess_place, cap_place, job_bytes, following}
 
 -- ---- "12 frame numbers (origin, x, y, z direction)"
 
@@ -106,7 +106,7 @@ with_b s a (surface.Refused r) = Refused JobFile
 
 -- surface A, then surface B
 abbrev pub with_a : List ℕ → SurfaceRead → JobRead
-with_a s (surface.Whole a) = with_b s a (surface_at s surface_bPlace)
+with_a s (surface.Whole a) = with_b s a (surface_at s surface_b_place)
 with_a s (surface.Refused r) = Refused JobFile
 
 -- "19, tested before all else: not 347 bytes, length field not 343, version not 1", then the surfaces'
@@ -114,6 +114,6 @@ unfoldable pub job_of : List ℕ → JobRead
 job_of s =
     pick (eqb (length s) job_bytes)
     (pick (eqb (four_at s 0) following)
-    (pick (eqb (byte_at s version_place) 1) (with_a s (surface_at s surface_aPlace)) (Refused JobFile))
+    (pick (eqb (byte_at s version_place) 1) (with_a s (surface_at s surface_a_place)) (Refused JobFile))
     (Refused JobFile))
     (Refused JobFile)

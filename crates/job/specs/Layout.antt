@@ -42,12 +42,12 @@ abbrev pub version_place : ℕ
 version_place = 4
 
 -- surface A
-abbrev pub surface_aPlace : ℕ
-surface_aPlace = 5
+abbrev pub surface_a_place : ℕ
+surface_a_place = 5
 
 -- surface B
-abbrev pub surface_bPlace : ℕ
-surface_bPlace = 151
+abbrev pub surface_b_place : ℕ
+surface_b_place = 151
 
 -- confusion
 abbrev pub confusion_place : ℕ

@@ -38,13 +38,13 @@ module _ (f b : ℕ) (l : List Float) (h : width * (1 + f + b) ≤ length l) whe
   unfolding B
   l_b = let d = length-drop (width * (1 + f)) l in length-take-le (width * b) (drop (width * (1 + f)) l) (omega (arith, d, h))
 
-  l_tB : length TB ≡ width * b
+  l_t_b : length TB ≡ width * b
   unfolding TB
-  l_tB = length_reversed b B l_b
+  l_t_b = length_reversed b B l_b
 
-  l_tS : length TS ≡ width * (1 + f)
+  l_t_s : length TS ≡ width * (1 + f)
   unfolding TS
-  l_tS = length_reversed (1 + f) S l_s
+  l_t_s = length_reversed (1 + f) S l_s
 
   used : take (width * (1 + f + b)) l ≡ S ++ B
   unfolding S B
@@ -63,13 +63,13 @@ module _ (f b : ℕ) (l : List Float) (h : width * (1 + f + b) ≤ length l) whe
   l₁_is = ap (λ (z : List Float). z ++ drop (width * (1 + f + b)) l) first ∙ append_assoc TB TS (drop (width * (1 + f + b)) l)
 
   behind_is : drop (width * b) l₁ ≡ TS ++ R
-  behind_is = ap (drop (width * b)) l₁_is ∙ drop_at TB (TS ++ R) (width * b) l_tB
+  behind_is = ap (drop (width * b)) l₁_is ∙ drop_at TB (TS ++ R) (width * b) l_t_b
 
   span : width * (1 + f + b) - width * b ≡ width * (1 + f)
   span = omega arith
 
   middle_is : take (width * (1 + f + b) - width * b) (drop (width * b) l₁) ≡ TS
-  middle_is = ap (λ (k : ℕ). take k (drop (width * b) l₁)) span ∙ ap (take (width * (1 + f))) behind_is ∙ take_at TS R (width * (1 + f)) l_tS
+  middle_is = ap (λ (k : ℕ). take k (drop (width * b) l₁)) span ∙ ap (take (width * (1 + f))) behind_is ∙ take_at TS R (width * (1 + f)) l_t_s
 
   -- and then the start and the forward half again
   pub joined : {p q : List Float} → p ≡ reversed_of (1 + f + b) (take (width * (1 + f + b)) l)
@@ -81,8 +81,8 @@ module _ (f b : ℕ) (l : List Float) (h : width * (1 + f + b) ≤ length l) whe
       ∙ ap (back_at (width * b) (width * (1 + f + b)) l₁)
       (eq ∙ ap (λ (z : List Float). reversed_of (1 + f) (take (width * (1 + f + b) - width * b) (drop (width * b) (z ++ drop (width * (1 + f + b)) l)))) ep
       ∙ ap (reversed_of (1 + f)) middle_is ∙ reversed_twice (1 + f) S l_s)
-      ∙ ap (λ (z : List Float). z ++ (S ++ drop (width * (1 + f + b) - width * b) (drop (width * b) l₁))) (ap (take (width * b)) l₁_is ∙ take_at TB (TS ++ R) (width * b) l_tB)
-      ∙ ap (λ (z : List Float). TB ++ (S ++ z)) (ap (λ (k : ℕ). drop k (drop (width * b) l₁)) span ∙ ap (drop (width * (1 + f))) behind_is ∙ drop_at TS R (width * (1 + f)) l_tS)
+      ∙ ap (λ (z : List Float). z ++ (S ++ drop (width * (1 + f + b) - width * b) (drop (width * b) l₁))) (ap (take (width * b)) l₁_is ∙ take_at TB (TS ++ R) (width * b) l_t_b)
+      ∙ ap (λ (z : List Float). TB ++ (S ++ z)) (ap (λ (k : ℕ). drop k (drop (width * b) l₁)) span ∙ ap (drop (width * (1 + f))) behind_is ∙ drop_at TS R (width * (1 + f)) l_t_s)
 
   -- its lengths, for the calls
   pub joined_first : length (take (width * (1 + f + b)) l) ≡ width * (1 + f + b)
@@ -98,6 +98,6 @@ module _ (f b : ℕ) (l : List Float) (h : width * (1 + f + b) ≤ length l) whe
       ∙ ap (take (width * (1 + f + b))) (sym (append_assoc (reversed_of b ys) xs R))
       ∙ take_at (reversed_of b ys ++ xs) R (width * (1 + f + b))
       (length-append (reversed_of b ys) xs
-      ∙ (let y : length (reversed_of b ys) ≡ width * b = ap (λ (z : List Float). length (reversed_of b z)) (sym ey) ∙ l_tB in
+      ∙ (let y : length (reversed_of b ys) ≡ width * b = ap (λ (z : List Float). length (reversed_of b z)) (sym ey) ∙ l_t_b in
       let x : length xs ≡ width * (1 + f) = ap length (sym ex) ∙ l_s in
       let e : length (reversed_of b ys) + length xs ≡ width * (1 + f + b) = omega (arith, x, y) in e))

@@ -31,28 +31,28 @@ module _ (c : After-put) where
       (c.row_for.ensures ∙ ap (λ (q : Point3D). row_for q start.args.x) start.pre.0)
 
 module _ (c : After-half-forward) where
-  abbrev put-before : After-put
-  put-before = c.before.before.before.before
+  abbrev put_before : After-put
+  put_before = c.before.before.before.before
 
   abbrev begin : Start
-  begin = start put-before
+  begin = start put_before
 
   abbrev after_forward : List Float
-  after_forward = back_from width put-before.put.last.0 c.half-forward.new.0
+  after_forward = back_from width put_before.put.last.0 c.half-forward.new.0
 
   forward_put : Forward (own_row begin.args.a) begin.args.x begin.args.n (half_from begin forward) after_forward c.half-forward.result.count
-  forward_put = forward_half (start_put put-before) c.half-forward.auto.0 c.half-forward.ensures
+  forward_put = forward_half (start_put put_before) c.half-forward.auto.0 c.half-forward.ensures
 
 module _ (c : After-half-backward) where
-  abbrev half-before : After-half-forward
-  half-before = c.before.before.before.before.before.before
+  abbrev half_before : After-half-forward
+  half_before = c.before.before.before.before.before.before
 
   abbrev first : Start
-  first = begin half-before
+  first = begin half_before
 
   both_put : Both (own_row first.args.a) first.args.x first.args.n (half_from first forward) (half_from first backward)
-      (back_from (width * (1 + half-before.half.result.count)) (after_forward half-before) c.half-backward.new.0) half-before.half.result.count c.half-backward.result.count
-  both_put = backward_half (forward_put half-before) c.half-backward.auto.0 c.half-backward.ensures
+      (back_from (width * (1 + half_before.half.result.count)) (after_forward half_before) c.half-backward.new.0) half_before.half.result.count c.half-backward.result.count
+  both_put = backward_half (forward_put half_before) c.half-backward.auto.0 c.half-backward.ensures
 
   cap : first.args.n ≤ most_steps
   cap = first.pre.1.0
@@ -98,4 +98,4 @@ finish-requires-2 c =
 pub returns : goal.returns
 returns c =
     c.finish-2.ensures ∙ settled_both (both_put (goal.at.returns c).After-half-backward) c.join.ensures c.join.auto.0 (c.backward_code-closing.ensures ∙ ap (λ (t : Bool). pick t 2 0) c.half-backward.ensures.ends)
-    ∙ ap (settled _ _) (both_halves_lem _ _ _ _ _ _ (sym (half-before (goal.at.returns c).After-half-backward).half.ensures.ends ∙ c.if-forward.false))
+    ∙ ap (settled _ _) (both_halves_lem _ _ _ _ _ _ (sym (half_before (goal.at.returns c).After-half-backward).half.ensures.ends ∙ c.if-forward.false))
