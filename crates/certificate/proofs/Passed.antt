@@ -17,7 +17,7 @@ use Rattle.loops.proofs.Loop.{searched_out, searched_end, searched_step}
 use Rattle.number.specs.Operators.{◌≤?◌}
 use Rattle.number.proofs.Binary64.{Binary64, AllFit}
 use Rattle.groups.specs.declared.row.Row.{Row}
-use Rattle.groups.specs.Groups.{width, least_points, most_points, count_fits_lem, holds_of}
+use Rattle.groups.specs.Groups.{width, least_points, most_points, count_fits, holds_of}
 use Rattle.groups.specs.Row.{numbers_of, point_in, row_of}
 use Rattle.groups.proofs.Groups.{both, holds_length, count_fits_lem, fits_count}
 use Rattle.refusal.specs.declared.Refusal.TheVariants as refusal
@@ -169,7 +169,7 @@ module _ (rows : ℕ → Row) (count start closing : ℕ) where
   unfolding claim_so
   claimed e =
       let c = closing_so rows count start closing in
-      let s = both (count_fits_lem count) (ltb start count && c) e in
+      let s = both (count_fits count) (ltb start count && c) e in
       let n = count_fits_lem count s.0 in
       let t = both (ltb start count) c s.1 in
       (n.0, n.1, ltb-true start count t.0, t.1)

@@ -9,7 +9,7 @@ use lib.ListN.{length, take, drop, length-drop}
 use lib.Seq.{take_all}
 use native.Mathlib.Nat.{mul_comm, le-div_iff_mul-le, div-lt_iff_lt-mul}
 use borrow.Author.Tests.{leb-true, leb-false, le-leb, lt-leb}
-use Rattle.groups.specs.Groups.{least_points, most_points, count_fits_lem, holds_of}
+use Rattle.groups.specs.Groups.{least_points, most_points, count_fits, holds_of}
 
 -- the part of a slice from number k on, as the borrow checker writes it, is the list without the numbers before
 pub part_from : {A : Type 0} (k : ℕ) (l : List A) → take (length l - k) (drop k l) ≡ drop k l
@@ -35,12 +35,12 @@ both true y e = (refl, e)
 both false y e = let z : ◌≡◌ {A = ℕ} 0 1 = cc in absurd (omega arith)
 
 -- a count that 12 lets through, and back
-pub count_fits_lem : (count : ℕ) → count_fits_lem count ≡ true → (least_points ≤ count) × (count ≤ most_points)
-unfolding count_fits_lem
+pub count_fits_lem : (count : ℕ) → count_fits count ≡ true → (least_points ≤ count) × (count ≤ most_points)
+unfolding count_fits
 count_fits_lem count e =
     let s = both (leb least_points count) (leb count most_points) e in
     (leb-true least_points count s.0, leb-true count most_points s.1)
 
-pub fits_count : (count : ℕ) → least_points ≤ count → count ≤ most_points → count_fits_lem count ≡ true
-unfolding count_fits_lem
+pub fits_count : (count : ℕ) → least_points ≤ count → count ≤ most_points → count_fits count ≡ true
+unfolding count_fits
 fits_count count h k = rw (le-leb least_points count h, le-leb count most_points k)

@@ -12,7 +12,7 @@ use Rattle.refusal.specs.declared.Refusal.TheVariants as refusal
 use Rattle.refusal.specs.declared.Verdict.TheVariants.{Passed}
 use Rattle.refusal.proofs.Order.{asked_held, first_passed}
 use Rattle.wire.specs.Wire.{byte_at, four_at}
-use Rattle.groups.specs.Groups.{least_points, most_points, count_fits_lem, holds_of}
+use Rattle.groups.specs.Groups.{least_points, most_points, count_fits, holds_of}
 use Rattle.groups.proofs.Groups.{both, count_fits_lem, fits_count, holds_length}
 use Rattle.trace_file.specs.Layout.{version_place, numbers_place, file_bytes, following, greatest_code, most_width}
 use Rattle.trace_file.specs.File.{claim_fits, all_finite, count_in, start_in, code_in, numbers_in, length_agrees, header_fits}
@@ -26,7 +26,7 @@ module _ {count start code : ℕ} where
   pub claim_fits_lem : claim_fits count start code ≡ true → (least_points ≤ count) × (count ≤ most_points) × (start < count) × (code ≤ greatest_code)
   unfolding claim_fits
   claim_fits_lem e =
-      let s = both (count_fits_lem count) (ltb start count && leb code greatest_code) e in
+      let s = both (count_fits count) (ltb start count && leb code greatest_code) e in
       let n = count_fits_lem count s.0 in
       let t = both (ltb start count) (leb code greatest_code) s.1 in
       (n.0, n.1, ltb-true start count t.0, leb-true code greatest_code t.1)

@@ -19,7 +19,7 @@ use Rattle.walk.specs.Lent.{placed, reversed_of, joined_of, rows_of}
 use Rattle.walk.specs.Line.{Half, half_of, Written}
 use Rattle.walk.specs.Line as line
 use Rattle.walk.specs.Trace.{room, finished_of, settled}
-use Rattle.walk.proofs.Lists.{back_from_lem, back_from_lem, length_from, part_length}
+use Rattle.walk.proofs.Lists.{back_from, back_from_lem, length_from, part_length}
 use Rattle.walk.proofs.Rows.{length_put, rows_append, reversed_rows}
 use Rattle.walk.proofs.Joining.{joined_front}
 
@@ -67,7 +67,7 @@ module _ {row : Parameters → Row} {x : Parameters} {n : ℕ} where
     needs_forward = let e = s.size in let p = part₁ in omega arith
 
     pub forward_half : {half : Half} {F : List Float} {f : ℕ} {closed : Bool} → length F ≡ length (from width l) → Written row n half F f closed
-        → Forward row x n half (back_from_lem width l F) f
+        → Forward row x n half (back_from width l F) f
     unfolding rows_of
     forward_half {half} {F} {f} lF w =
         let e = s.size in
@@ -100,12 +100,12 @@ module _ {row : Parameters → Row} {x : Parameters} {n : ℕ} where
     needs_backward = let e = s.size in let k = s.few in let p = part₂ in omega arith
 
     pub backward_half : {backward : Half} {B : List Float} {k : ℕ} {closed : Bool} → length B ≡ length (from (width * (1 + f)) l) → Written row n backward B k closed
-        → Both row x n forward backward (back_from_lem (width * (1 + f)) l B) f k
+        → Both row x n forward backward (back_from (width * (1 + f)) l B) f k
     backward_half {backward} {B} {k} l_b w =
         let bw : List Parameters = backward.points in
         let fw : List Parameters = x ∷ reverse forward.points in
         let at : ℕ = width * (1 + f) in
-        let m : List Float = back_from_lem at l B in
+        let m : List Float = back_from at l B in
         let lm : length m ≡ room n = length_from at l B fits (l_b ∙ part₂) ∙ s.size in
         let b = back_from_lem at l B fits in
         let t = length-take-le at l fits in

@@ -45,15 +45,15 @@ module _ {A : Type 0} where
 
 -- ---- the parts of a slice, as they come back
 
-abbrev pub back_from_lem : ℕ → List Float → List Float → List Float
-back_from_lem a l part = take a l ++ (part ++ drop (length l - a) (drop a l))
+abbrev pub back_from : ℕ → List Float → List Float → List Float
+back_from a l part = take a l ++ (part ++ drop (length l - a) (drop a l))
 
-pub back_from_lem : (a : ℕ) (l part : List Float) → a ≤ length l → back_from_lem a l part ≡ take a l ++ part
+pub back_from_lem : (a : ℕ) (l part : List Float) → a ≤ length l → back_from a l part ≡ take a l ++ part
 back_from_lem a l part h =
     ap (λ (r : List Float). take a l ++ (part ++ r)) (drop_of_length-le (drop a l) {i = length l - a} (let e = length-drop a l in omega arith))
     ∙ ap (λ (r : List Float). take a l ++ r) (append-nil part)
 
-pub length_from : (a : ℕ) (l part : List Float) → a ≤ length l → length part ≡ length l - a → length (back_from_lem a l part) ≡ length l
+pub length_from : (a : ℕ) (l part : List Float) → a ≤ length l → length part ≡ length l - a → length (back_from a l part) ≡ length l
 length_from a l part h e =
     ap length (back_from_lem a l part h) ∙ length-append (take a l) part
     ∙ (let z = length-take-le a l h in let g : length (take a l) + length part ≡ length l = omega (arith, z, e, h) in g)
