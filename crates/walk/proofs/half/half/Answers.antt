@@ -34,15 +34,10 @@ put-requires-in-Closed c =
     let h = c.loop-test.true in
     fits v h (few_left v h c.in-Closed.removed c.left_of-left.ensures)
 
--- LEFT no goal overflow-add-t30
-add-t30 : tie.Need-overflow-add-t30 invariant-loop decreases-loop
-add-t30 c =
-    let l = c.before.before.before.before.before in
-    let m = l.before.before in
-    let t = m.before.before.before in
-    let q = t.before in
-    let f = few_left q.loop.invariant t.loop-test.true m.stepped2.given.0.0 l.left-of.ensures in
-    let k = q.before.before.before.before.requires.1.0 in
+pub overflow_add-result : goal.overflow_add-result
+overflow_add-result c =
+    let f = few_left c.loop.invariant c.loop-test.true c.in-Closed.removed c.left_of-left.ensures in
+    let k = c.requires.1.0 in
     search rules
 
 pub returns-in-Closed : goal.returns-in-Closed
@@ -57,13 +52,10 @@ put-requires-in-Edge c =
     let h = c.loop-test.true in
     fits v h (few_held v h)
 
--- LEFT no goal overflow-add-t35
-add-t35 : tie.Need-overflow-add-t35 invariant-loop decreases-loop
-add-t35 c =
-    let t = c.before.before.before.before.before.before.before.before.before in
-    let q = t.before in
-    let f = few_held q.loop.invariant t.loop-test.true in
-    let k = q.before.before.before.before.requires.1.0 in
+pub overflow_add-result-in-Edge : goal.overflow_add-result-in-Edge
+overflow_add-result-in-Edge c =
+    let f = few_held c.loop.invariant c.loop-test.true in
+    let k = c.requires.1.0 in
     search rules
 
 pub returns-in-Edge : goal.returns-in-Edge

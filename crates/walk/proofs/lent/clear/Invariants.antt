@@ -8,7 +8,7 @@ use Rattle.walk.proofs.Lists.{filled, filled_start, filled_again, filled_done}
 use Rattle.walk.proofs.lent.clear.Given as goal
 
 abbrev pub invariant-loop-i : goal.invariant-loop-i
-invariant-loop-i l = (l.s ≡ filled l.initial.s l.from positive_zero l.i) × ((l.from ≤ l.i) × ((l.i ≤ length l.initial.s) × ((l.i-end ≡ length l.initial.s) × (length l.s ≡ length l.initial.s))))
+invariant-loop-i l = (l.points ≡ filled l.initial.points l.from positive_zero l.i) × ((l.from ≤ l.i) × ((l.i ≤ length l.initial.points) × ((l.i-end ≡ length l.initial.points) × (length l.points ≡ length l.initial.points))))
 
 abbrev pub decreases-loop-i : goal.decreases-loop-i
 decreases-loop-i l = l.i-end - l.i

@@ -14,16 +14,15 @@ loop-i-init c = (reversing_start _ _, (omega arith, refl))
 
 pub loop-i-preserved : goal.loop-i-preserved
 loop-i-preserved c =
-    let st = p.before.before in
-    let k = st.args.k in
-    let i = p.loop.i in
-    let l : length p.loop.points ≡ width * k = p.loop.invariant.0.size ∙ st.requires.0 in
-    let h : i < k / 2 = omega (arith, t.loop-test.true) in (
-      reversing_again k i st.args.points.now p.loop.points st.requires.0 h p.loop.invariant.0
-          (r₁.row_of.ensures ∙ row_there p.loop.points i (omega (arith, l, h)))
-          (c.row_of-high.ensures ∙ row_there p.loop.points (k - 1 - i) (omega (arith, l, h)))
+    let k = c.args.k in
+    let p = c.loop-i in
+    let l : length p.points ≡ width * k = p.invariant.0.size ∙ c.requires.0 in
+    let h : p.i < k / 2 = omega (arith, c.loop-i-test.true) in (
+      reversing_again k p.i c.args.points.now p.points c.requires.0 h p.invariant.0
+          (c.row_of-low.ensures ∙ row_there p.points p.i (omega (arith, l, h)))
+          (c.row_of-high.ensures ∙ row_there p.points (k - 1 - p.i) (omega (arith, l, h)))
           c.put.ensures c.put-in-loop-i.ensures,
-      (omega (arith, h), p.loop.invariant.1.1),
+      (omega (arith, h), p.invariant.1.1),
     )
 
 pub shape_of-points : goal.shape_of-points

@@ -10,7 +10,7 @@ use Rattle.walk.proofs.Reversal.{Reversing, reversing_start, reversing_again, re
 use Rattle.walk.proofs.lent.reverse.Given as goal
 
 abbrev pub invariant-loop-i : goal.invariant-loop-i
-invariant-loop-i l = Reversing l.k l.i l.initial.s l.s × ((l.i ≤ l.k / 2) × (l.i-end ≡ l.k / 2))
+invariant-loop-i l = Reversing l.k l.i l.initial.points l.points × ((l.i ≤ l.k / 2) × (l.i-end ≡ l.k / 2))
 
 abbrev pub decreases-loop-i : goal.decreases-loop-i
 decreases-loop-i l = l.i-end - l.i

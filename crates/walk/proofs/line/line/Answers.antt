@@ -15,87 +15,73 @@ use Rattle.walk.specs.Trace.{most_steps, settled}
 use Rattle.walk.proofs.Lists.{back_from}
 use Rattle.walk.proofs.Lines.{Started, Forward, Both, started, needs_forward, forward_half, needs_backward, backward_half, settled_forward, settled_both, closed_forward_lem, both_halves_lem}
 use Rattle.walk.proofs.line.line.Goals as goal
-use Rattle.walk.proofs.line.line.Goals.{After-half-backward, After-half-forward, After-put, Start}
+use Rattle.walk.proofs.line.line.Goals.{After-half-backward, After-half-forward, After-put}
 
 -- ---- what the calls leave
-abbrev half_from : Start → Float → Half
-half_from s dir = half_of s.args.a s.args.b s.args.tol dir s.args.x s.args.t s.args.n
-
 module _ (c : After-put) where
-  abbrev start : Start
-  start = c.before.before.before.before
-
-  start_put : Started (own_row start.args.a) start.args.x start.args.n c.put.new.0
-  start_put =
-      started start.args.points.now start.pre.1.1 c.put.ensures
-      (c.row_for.ensures ∙ ap (λ (q : Point3D). row_for q start.args.x) start.pre.0)
+  start_put : Started (own_row c.args.a) c.args.x c.args.n c.put.new.out
+  start_put = started c.args.points.now c.requires.1.1 c.put.ensures (c.row_for.ensures ∙ ap (λ (q : Point3D). row_for q c.args.x) c.requires.0)
 
 module _ (c : After-half-forward) where
-  abbrev put_before : After-put
-  put_before = c.before.before.before.before
-
-  abbrev begin : Start
-  begin = start put_before
+  abbrev forward_half_of : Half
+  forward_half_of = half_of c.args.a c.args.b c.args.tol forward c.args.x c.args.t c.args.n
 
   abbrev after_forward : List Float
-  after_forward = back_from width put_before.put.last.0 c.half-forward.new.0
+  after_forward = back_from width c.put.new.out c.half-forward.new.out
 
-  forward_put : Forward (own_row begin.args.a) begin.args.x begin.args.n (half_from begin forward) after_forward c.half-forward.result.count
-  forward_put = forward_half (start_put put_before) c.half-forward.auto.0 c.half-forward.ensures
+  forward_put : Started (own_row c.args.a) c.args.x c.args.n c.put.new.out
+      → Forward (own_row c.args.a) c.args.x c.args.n forward_half_of after_forward c.half-forward.result.count
+  forward_put s = forward_half s c.half-forward.auto.out c.half-forward.ensures
 
 module _ (c : After-half-backward) where
-  abbrev half_before : After-half-forward
-  half_before = c.before.before.before.before.before.before
+  abbrev first_half : Half
+  first_half = half_of c.args.a c.args.b c.args.tol forward c.args.x c.args.t c.args.n
 
-  abbrev first : Start
-  first = begin half_before
+  abbrev first_put : List Float
+  first_put = back_from width c.put.new.out c.half-forward.new.out
 
-  both_put : Both (own_row first.args.a) first.args.x first.args.n (half_from first forward) (half_from first backward)
-      (back_from (width * (1 + half_before.half.result.count)) (after_forward half_before) c.half-backward.new.0) half_before.half.result.count c.half-backward.result.count
-  both_put = backward_half (forward_put half_before) c.half-backward.auto.0 c.half-backward.ensures
-
-  cap : first.args.n ≤ most_steps
-  cap = first.pre.1.0
+  both_put : Forward (own_row c.args.a) c.args.x c.args.n first_half first_put c.half-forward.result.count
+      → Both (own_row c.args.a) c.args.x c.args.n first_half (half_of c.args.a c.args.b c.args.tol backward c.args.x c.args.t c.args.n)
+      (back_from (width * (1 + c.half-forward.result.count)) first_put c.half-backward.new.out) c.half-forward.result.count c.half-backward.result.count
+  both_put f = backward_half f c.half-backward.auto.out c.half-backward.ensures
 
 pub half-forward-requires : goal.half-forward-requires
 half-forward-requires c =
-    let st = start (goal.at.half-forward-requires c).After-put in
-    (st.pre.0, (st.pre.1.0, needs_forward (start_put (goal.at.half-forward-requires c).After-put)))
+    (c.requires.0, (c.requires.1.0, needs_forward (start_put (goal.at.half-forward-requires c).After-put)))
 
 pub returns-then-forward : goal.returns-then-forward
-returns-then-forward c = c.finish.ensures ∙ settled_forward (forward_put (goal.at.returns-then-forward c).After-half-forward) ∙ ap (settled _ _) (closed_forward_lem _ _ _ _ _ _ (sym c.half-forward.ensures.ends ∙ c.if-forward.true))
+returns-then-forward c = c.finish.ensures ∙ settled_forward (forward_put (goal.at.returns-then-forward c).After-half-forward (start_put (goal.at.returns-then-forward c).After-put)) ∙ ap (settled _ _) (closed_forward_lem _ _ _ _ _ _ (sym c.half-forward.ensures.ends ∙ c.if-forward.true))
 
 pub half-backward-requires : goal.half-backward-requires
 half-backward-requires c =
-    let st = begin (goal.at.half-backward-requires c).After-half-forward in
-    (st.pre.0, (st.pre.1.0, needs_backward (forward_put (goal.at.half-backward-requires c).After-half-forward)))
+    (c.requires.0, (c.requires.1.0, needs_backward (forward_put (goal.at.half-backward-requires c).After-half-forward (start_put (goal.at.half-backward-requires c).After-put))))
 
 pub join-requires : goal.join-requires
 join-requires c =
-    let e = both_put (goal.at.join-requires c).After-half-backward in
-    let k = cap (goal.at.join-requires c).After-half-backward in
+    let e = both_put (goal.at.join-requires c).After-half-backward (forward_put (goal.at.join-requires c).After-half-forward (start_put (goal.at.join-requires c).After-put)) in
+    let k = c.requires.1.0 in
     (omega arith, (omega arith, omega arith))
 
 pub overflow_add-count : goal.overflow_add-count
 overflow_add-count c =
-    let e = both_put (goal.at.overflow_add-count c).After-half-backward in
-    let k = cap (goal.at.overflow_add-count c).After-half-backward in
+    let e = both_put (goal.at.overflow_add-count c).After-half-backward (forward_put (goal.at.overflow_add-count c).After-half-forward (start_put (goal.at.overflow_add-count c).After-put)) in
+    let k = c.requires.1.0 in
     search rules
 
 pub overflow_add-count-2 : goal.overflow_add-count-2
 overflow_add-count-2 c =
-    let e = both_put (goal.at.overflow_add-count-2 c).After-half-backward in
-    let k = cap (goal.at.overflow_add-count-2 c).After-half-backward in
+    let e = both_put (goal.at.overflow_add-count-2 c).After-half-backward (forward_put (goal.at.overflow_add-count-2 c).After-half-forward (start_put (goal.at.overflow_add-count-2 c).After-put)) in
+    let k = c.requires.1.0 in
     search rules
 
 pub finish-requires-2 : goal.finish-requires-2
 finish-requires-2 c =
-    let e = both_put (goal.at.finish-requires-2 c).After-half-backward in
-    let k = cap (goal.at.finish-requires-2 c).After-half-backward in
-    let m = c.join.auto.0 in
+    let e = both_put (goal.at.finish-requires-2 c).After-half-backward (forward_put (goal.at.finish-requires-2 c).After-half-forward (start_put (goal.at.finish-requires-2 c).After-put)) in
+    let k = c.requires.1.0 in
+    let m = c.join.auto.points in
     (omega arith, omega arith)
 
 pub returns : goal.returns
 returns c =
-    c.finish-2.ensures ∙ settled_both (both_put (goal.at.returns c).After-half-backward) c.join.ensures c.join.auto.0 (c.backward_code-closing.ensures ∙ ap (λ (t : Bool). pick t 2 0) c.half-backward.ensures.ends)
-    ∙ ap (settled _ _) (both_halves_lem _ _ _ _ _ _ (sym (half_before (goal.at.returns c).After-half-backward).half.ensures.ends ∙ c.if-forward.false))
+    c.finish-2.ensures ∙ settled_both (both_put (goal.at.returns c).After-half-backward (forward_put (goal.at.returns c).After-half-forward (start_put (goal.at.returns c).After-put))) c.join.ensures c.join.auto.points (c.backward_code-closing.ensures ∙ ap (λ (t : Bool). pick t 2 0) c.half-backward.ensures.ends)
+    ∙ ap (settled _ _) (both_halves_lem _ _ _ _ _ _ (sym c.half-forward.ensures.ends ∙ c.if-forward.false))

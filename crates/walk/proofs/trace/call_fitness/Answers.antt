@@ -9,14 +9,11 @@ use Rattle.patch.specs.Pair.{pair_fitness}
 use Rattle.walk.specs.Trace.{call_fitness}
 use Rattle.walk.proofs.Calls.{cap_least}
 use Rattle.walk.proofs.trace.call_fitness.Goals as goal
-use Rattle.walk.proofs.trace.call_fitness.Goals.{In-Passed, Start}
+use Rattle.walk.proofs.trace.call_fitness.Goals.{In-Passed}
 
 -- where both surfaces and the tolerance pass
 module _ (c : In-Passed) where
-  abbrev start : Start
-  start = c.before.before.before.before
-
-  passed : pair_fitness start.args.a start.args.b start.args.tol ≡ Passed
+  passed : pair_fitness c.args.a c.args.b c.args.tol ≡ Passed
   passed = sym c.pair_fitness-pair.ensures ∙ c.in-Passed.is
 
 pub returns-in_default : goal.returns-in_default
@@ -48,7 +45,7 @@ unfolding call_fitness
 returns-then-not-holds c =
     let finite = not-false c.guess_finite.result c.if-not-guess_finite.false-raw in
     let fits = not-false c.cap_fits.result c.if-not-cap_fits.false-raw in
-    let few : holds_of width _ (2 * (start (goal.at.returns-then-not-holds c).In-Passed).args.cap + 1) ≡ false = sym c.holds.ensures ∙ not-true c.holds.result c.if-not-holds.true-raw in
+    let few : holds_of width _ (2 * c.args.cap + 1) ≡ false = sym c.holds.ensures ∙ not-true c.holds.result c.if-not-holds.true-raw in
     rw (passed (goal.at.returns-then-not-holds c).In-Passed, ← c.guess_finite.ensures, finite, ← c.cap_fits.ensures, fits, few)
 
 pub returns : goal.returns
@@ -56,5 +53,5 @@ unfolding call_fitness
 returns c =
     let finite = not-false c.guess_finite.result c.if-not-guess_finite.false-raw in
     let fits = not-false c.cap_fits.result c.if-not-cap_fits.false-raw in
-    let enough : holds_of width _ (2 * (start (goal.at.returns c).In-Passed).args.cap + 1) ≡ true = sym c.holds.ensures ∙ not-false c.holds.result c.if-not-holds.false-raw in
+    let enough : holds_of width _ (2 * c.args.cap + 1) ≡ true = sym c.holds.ensures ∙ not-false c.holds.result c.if-not-holds.false-raw in
     rw (passed (goal.at.returns c).In-Passed, ← c.guess_finite.ensures, finite, ← c.cap_fits.ensures, fits, enough)

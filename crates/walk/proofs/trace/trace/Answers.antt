@@ -8,15 +8,12 @@ use Rattle.groups.specs.Traced.{Outcome, outcome}
 use Rattle.walk.specs.Trace.{room, trace_of}
 use Rattle.walk.proofs.Calls.{CallFit, call_fit}
 use Rattle.walk.proofs.trace.trace.Goals as goal
-use Rattle.walk.proofs.trace.trace.Goals.{In-Passed, Start}
+use Rattle.walk.proofs.trace.trace.Goals.{In-Passed}
 
 -- where nothing is refused
 module _ (c : In-Passed) where
-  abbrev start : Start
-  start = c.before.before.before.before.before
-
-  fit : CallFit start.args.a start.args.b start.args.tol start.args.cap start.args.buffer.now
-  fit = call_fit start.args.guess (sym c.call_fitness-fitness.ensures ∙ c.in-Passed.is)
+  fit : CallFit c.args.a c.args.b c.args.tol c.args.cap c.args.buffer.now
+  fit = call_fit c.args.guess (sym c.call_fitness-fitness.ensures ∙ c.in-Passed.is)
 
 pub overflow_mul-room : goal.overflow_mul-room
 overflow_mul-room c = omega (arith, (fit c).cap)
@@ -43,6 +40,6 @@ returns-in-Refused c = rw (← c.call_fitness-fitness.ensures, c.in-Refused.is)
 pub returns-in-Passed : goal.returns-in-Passed
 unfolding trace_of
 returns-in-Passed c =
-    let g = (start (goal.at.returns-in-Passed c).In-Passed).args in
+    let g = c.args in
     rw (← c.call_fitness-fitness.ensures, c.in-Passed.is)
     (ap (λ (o : Outcome). outcome o.answer (o.buffer ++ drop (room g.cap) g.buffer.now)) c.walk_from.ensures)
