@@ -10,7 +10,7 @@ use lib.Ieee.{Float}
 use borrow.Author.Tests.{ltb-true, ltb-false, le-leb, not-false, not-true}
 use Rattle.loops.specs.Loop.{pick}
 use Rattle.loops.proofs.Any.{any_found, any_at, any_none, any_fails}
-use Rattle.groups.specs.Groups.{width, count_fits_lem, from_group, holds_of}
+use Rattle.groups.specs.Groups.{width, count_fits, from_group, holds_of}
 use Rattle.groups.proofs.Groups.{holds_length, count_fits_lem, fits_count}
 use Rattle.groups.proofs.Rows.{point_from_lem}
 use Rattle.geometry.specs.Tolerance.{tolerance_fit}
@@ -119,7 +119,7 @@ module _ (tol : Tolerance) (l : List Float) (count : ℕ) (b : Aabb) where
   unfolding crossing_fitness some_unfit
   tests_fit e =
       let s = first_passed (crossing_tests tol l count b) e in
-      let c = count_fits_lem count (asked_held (count_fits_lem count) refusal.Claim s.1.1.0) in
+      let c = count_fits_lem count (asked_held (count_fits count) refusal.Claim s.1.1.0) in
       let u = asked_held (not (some_unfit l count)) refusal.Coordinate s.1.1.1.0 in
       record {
         tolerance = asked_held (tolerance_fit tol) refusal.Tolerance s.0;
