@@ -1,0 +1,40 @@
+use lib.ListN.{length-set}
+use borrow.Author.Tests.{lt-ltb, le-ltb}
+use borrow.Author.Rules.{rules}
+use native.Mathlib.Omega.{arith}
+use Rattle.probe.specs.Probe.{probe3_of}
+use Rattle.probe.proofs.probe_3x3.Goals as goal
+
+pub returns-then-input-lt13 : goal.returns-then-input-lt13
+unfolding probe3_of
+returns-then-input-lt13 c = rw (lt-ltb _ _ c.if-input-lt13.true)
+
+pub returns-then-output-lt3 : goal.returns-then-output-lt3
+unfolding probe3_of
+returns-then-output-lt3 c = rw (le-ltb _ _ c.if-input-lt13.false, lt-ltb _ _ c.if-output-lt3.true)
+
+pub bounds-output-1 : goal.bounds-output-1
+bounds-output-1 c = simp length-set (omega arith)
+
+pub bounds-output-2 : goal.bounds-output-2
+bounds-output-2 c = simp length-set (omega arith)
+
+pub overflow_mul-result : goal.overflow_mul-result
+overflow_mul-result c = let h = c.solve_3x3-solved.ensures.column _ c.in-Singular.is in omega (arith, h)
+
+pub shape_of-output : goal.shape_of-output
+shape_of-output c = simp length-set
+
+pub returns-in-Solution : goal.returns-in-Solution
+unfolding probe3_of
+returns-in-Solution c =
+    rw (le-ltb _ _ c.if-input-lt13.false, le-ltb _ _ c.if-output-lt3.false)
+    (rw (← c.row3-r0.ensures, ← c.row3-r1.ensures, ← c.row3-r2.ensures, ← c.row3-b.ensures)
+    (rw (← c.solve_3x3-solved.ensures.answer, c.in-Solution.is)))
+
+pub returns-in-Singular : goal.returns-in-Singular
+unfolding probe3_of
+returns-in-Singular c =
+    rw (le-ltb _ _ c.if-input-lt13.false, le-ltb _ _ c.if-output-lt3.false)
+    (rw (← c.row3-r0.ensures, ← c.row3-r1.ensures, ← c.row3-r2.ensures, ← c.row3-b.ensures)
+    (rw (← c.solve_3x3-solved.ensures.answer, c.in-Singular.is)))

@@ -1,0 +1,12 @@
+use native.Mathlib.Omega.{arith}
+use borrow.Author.Rules.{rules}
+use Rattle.meeting.proofs.Rounds.{unmet_more}
+use Rattle.probe.specs.Steps.{probe_land}
+use Rattle.probe.proofs.steps.probe_land.Goals as goal
+
+pub put_met-requires : goal.put_met-requires
+put_met-requires c = (c.requires.1, λ q e. unmet_more q (omega arith) (c.land.ensures.unmet q e))
+
+pub returns : goal.returns
+unfolding probe_land
+returns c = rw (← c.land.ensures.answer) c.put_met.ensures
