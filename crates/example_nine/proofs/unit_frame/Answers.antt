@@ -1,0 +1,7 @@
+use Rattle.geometry.specs.Vector.{zero_vector}
+use borrow.Author.Rules.{rules}
+use Rattle.example_nine.proofs.unit_frame.Goals as goal
+
+pub returns : goal.returns
+unfolding zero_vector
+returns c = c.moved_frame.ensures

@@ -1,0 +1,10 @@
+-- What the file stands for is `write_v1_promised`.
+use borrow.Author.Rules.{rules}
+use Rattle.passing.proofs.Filed.{write_v1_promised}
+use Rattle.geomcore.proofs.call.write_v1.Goals as goal
+
+-- `.shared-slice-known`: the lent numbers are binary64
+pub returns : goal.returns
+returns c =
+    let g = c.args in
+    write_v1_promised g.trace.now g.count g.start g.closing g.file.now c.shared_slice_known-1.given c.write_v1.ensures
