@@ -1,6 +1,6 @@
 -- Laws of the answer's text: its digits, and texts put one behind the other.
 use mathlib.Core.Path.{◌≡◌, sym, ap, subst, ◌∙◌}
-use mathlib.Core.List.{List, [], ◌∷◌, ◌++◌, append-nil, append_assoc}
+use mathlib.Core.List.{List, [], ◌∷◌, ◌++◌, append_assoc}
 use Prim.Native.Nat.{ℕ, suc, ◌+◌, ◌-◌, ◌/◌, ◌%◌, ◌≤◌, ◌<◌}
 use native.Mathlib.Omega.{arith}
 use native.Mathlib.Nat.{zero-add}
@@ -8,7 +8,7 @@ use borrow.Author.Tests.{le-ltb, lt-ltb}
 use borrow.Author.Rules.{part_to_end}
 use borrow.Rule.Slice.PartMut.{put_mid, Post-is}
 use lib.ListN.{length, take, drop, set, length-append, length-drop}
-use lib.Seq.{take-length, drop-length, drop-drop, drop_at, set_split, length-take-le}
+use lib.Seq.{drop-length, drop_at, set_split, length-take-le}
 use Rattle.loops.specs.Over.{over, written}
 use Rattle.loops.proofs.Over.{over_front, written_over}
 use Rattle.answer.specs.Line.{digit_of, spell, decimal_of, trace_word, refused_word, space, newline, trace_line, refused_line}
@@ -62,11 +62,9 @@ module _ (l d : List ℕ) (k : ℕ) (e : length l ≡ 20) (s : drop k l ≡ d) w
 
 -- ---- texts put one behind the other
 
--- a text copied to the front of what follows `at`
-pub over_part : (l t p : List ℕ) (at : ℕ) → at + length t ≤ length l
-    → p ≡ take (length t) t ++ drop (length t) (take (length l - at) (drop at l)) → put_mid at (length l - at) l p ≡ over l at t
-over_part l t p at h e =
-    rw (e, take-length t, part_to_end l at, drop-drop (length t) at l, Post-is at (length l) l (omega arith), drop-length l, append-nil) (sym (append_assoc (take at l) t (drop (at + length t) l)))
+-- a text copied over as many bytes from `at` on
+pub over_part : (l t p : List ℕ) (at : ℕ) → p ≡ t → put_mid at (at + length t - at) l p ≡ over l at t
+over_part l t p at e = rw (e, Post-is at (at + length t) l (omega arith)) (sym (append_assoc (take at l) t (drop (at + length t) l)))
 
 -- as many bytes as a line has are there, and the part of them that is lent on is as long
 module _ (t l m : List ℕ) (r : ℕ) (w : (r ≡ length t) × (m ≡ written t l)) where

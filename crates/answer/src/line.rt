@@ -36,8 +36,9 @@ fn append(line: &mut [u8], at: usize, text: &[u8]) -> usize
     requires { at + length text.now ≤ length line.old }
     ensures { (result ≡ at + length text.now) × (line.new ≡ over line.old at text.now) }
 {
-    let count = bytes::copy(text, &mut line[at..]);
-    at + count
+    let end = at + text.len();
+    line[at..end].copy_from_slice(text);
+    end
 }
 
 // Puts the decimal digits of n into the line from `at` on; where they end.

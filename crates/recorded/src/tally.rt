@@ -3,6 +3,9 @@ ghost use Rattle.std.specs.Prelude.{◌≡◌};
 ghost use Rattle.recorded.specs.Marked.{in_reach_of, beyond_of};
 ghost use Rattle.recorded.specs.Tally.{counted_of};
 
+use std::io;
+use std::io::Write;
+
 // Stands for StrictMath's answer where an angle is beyond reach: our sine and cosine are NaN there.
 const BEYOND: u64 = 0x7ff8_0000_0000_0001;
 
@@ -32,7 +35,7 @@ pub fn none() -> Tally
 pub fn counted(t: Tally, same: bool) -> Tally
     ensures { result ≡ counted_of t same }
 {
-    let compared = std::num::wrapping_add_u64(t.compared, 1);
+    let compared = t.compared.wrapping_add(1);
     if same {
         Tally {
             compared,
@@ -48,7 +51,7 @@ pub fn counted(t: Tally, same: bool) -> Tally
     } else {
         Tally {
             compared,
-            differ: std::num::wrapping_add_u64(t.differ, 1),
+            differ: t.differ.wrapping_add(1),
             first: t.first,
         }
     }
@@ -75,16 +78,13 @@ pub fn beyond(t: Tally, got: f64, expected: u64) -> Tally
 }
 
 // Writes the line: what was compared, how many, how many differ, and the first that does.
-pub fn report(what: &[u8], t: Tally) {
-    io::write_all(libc::STDOUT_FILENO, what);
-    io::write_all(libc::STDOUT_FILENO, b": ");
-    io::print_decimal(libc::STDOUT_FILENO, t.compared);
-    io::write_all(libc::STDOUT_FILENO, b" compared, ");
-    io::print_decimal(libc::STDOUT_FILENO, t.differ);
-    io::write_all(libc::STDOUT_FILENO, b" differ");
-    if 0 < t.differ {
-        io::write_all(libc::STDOUT_FILENO, b", the first at ");
-        io::print_decimal(libc::STDOUT_FILENO, t.first);
+pub fn report<W: Write>(output: &mut W, what: &str, t: Tally) -> io::Result<()> {
+    let compared = t.compared;
+    let differ = t.differ;
+    write!(output, "{what}: {compared} compared, {differ} differ")?;
+    if 0 < differ {
+        let first = t.first;
+        write!(output, ", the first at {first}")?;
     }
-    io::write_all(libc::STDOUT_FILENO, b"\n");
+    writeln!(output)
 }

@@ -1,14 +1,29 @@
 //! A record and its 8-byte big-endian words.
-ghost use Rattle.std.specs.Prelude.{◌≡◌, ◌≤◌};
+ghost use Rattle.std.specs.Prelude.{◌≡◌, ◌≤◌, IfOk};
+ghost use Rattle.std.specs.Bool.{OnTrue};
+ghost use Rattle.std.specs.Io.KnownBytes.{Consumes};
 ghost use Rattle.recorded.specs.Words.{word_at, at_most_of, loaded_of, differ_of};
+
+use std::io;
+use std::io::{ErrorKind, Read};
 
 // Room for a record of any kind: 960 bytes, and 185 numbers behind them.
 pub const RECORD: usize = 2440;
 
-// Fills the bytes from standard input. False where there are fewer.
-pub fn next(bytes: &mut [u8]) -> bool {
-    let got = io::read_full(libc::STDIN_FILENO, bytes);
-    got == bytes.len()
+// Fills the bytes from the input. False where there are fewer.
+pub fn next<R: Read>(input: &mut R, bytes: &mut [u8]) -> io::Result<bool>
+    ensures { IfOk result (λ full. OnTrue full (Consumes (R.remaining input.old) (R.remaining input.new) bytes.new)) }
+{
+    match input.read_exact(bytes) {
+        Ok(()) => Ok(true),
+        Err(e) => {
+            if e.kind() == ErrorKind::UnexpectedEof {
+                Ok(false)
+            } else {
+                Err(e)
+            }
+        }
+    }
 }
 
 // The eight bytes from `at` on as a big-endian number, or 0 where there are fewer.

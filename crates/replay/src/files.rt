@@ -27,7 +27,7 @@ fn leaves(bytes: &[u8], numbers: &[f64], file: &mut [u8], words: &[u8]) -> bool 
     if capi::geomcore_write_v1(numbers, count, start, code, file) != word(bytes, 56) {
         return false;
     }
-    check::same(&*file, words)
+    *file == *words
 }
 
 fn same_written(bytes: &[u8]) -> bool

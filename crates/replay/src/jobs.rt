@@ -4,13 +4,15 @@ ghost use Rattle.std.specs.Prelude.{◌≡◌, length};
 ghost use Rattle.recorded.specs.Words.{record_bytes};
 
 use recorded::words::at_most;
+use std::io;
+use std::io::Write;
 
-// Writes the line of an input. False where it could not be written.
-pub fn written(bytes: &[u8]) -> bool
+// Writes the line of an input.
+pub fn write<W: Write>(bytes: &[u8], output: &mut W) -> io::Result<()>
     requires { length bytes.now ≡ record_bytes }
 {
     let end = 2 + at_most(wire::two(bytes, 0), 400);
     let mut line = [0u8; answer::line::LINE];
     let count = answer::answer(&bytes[2..end], &mut line);
-    io::write_all(libc::STDOUT_FILENO, &line[..count])
+    output.write_all(&line[..count])
 }

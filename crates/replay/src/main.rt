@@ -22,6 +22,8 @@ ghost use Rattle.recorded.specs.Words.{record_bytes};
 use recorded::tally::Tally;
 use recorded::words::RECORD;
 use recorded::{tally, words};
+use std::io;
+use std::io::{Read, Write};
 
 const KINDS: usize = 11;
 
@@ -58,85 +60,97 @@ fn numbers(kind: u64, bytes: &[u8]) -> usize
 }
 
 // The next record. False at the end of the list.
-fn read(kind: u64, bytes: &mut [u8]) -> bool
+fn read<R: Read>(kind: u64, input: &mut R, bytes: &mut [u8]) -> io::Result<bool>
     requires { length bytes.old ≡ record_bytes }
 {
     let start = size(kind);
-    if !words::next(&mut bytes[0..start]) {
-        return false;
+    if !words::next(input, &mut bytes[0..start])? {
+        return Ok(false);
     }
     let end = start + 8 * numbers(kind, bytes);
-    words::next(&mut bytes[start..end])
+    words::next(input, &mut bytes[start..end])
 }
 
-// Whether the recorded answer is given, in bits.
-fn same(kind: u64, bytes: &[u8]) -> bool
+// Whether the recorded answer is given, in bits. A job's line is written, and nothing compared.
+fn same<W: Write>(kind: u64, bytes: &[u8], output: &mut W) -> io::Result<bool>
     requires { length bytes.now ≡ record_bytes }
 {
-    match kind {
+    Ok(match kind {
         0 => roots::same(bytes),
         1 => tolerances::same(bytes),
         3 => systems::same(bytes),
         4 => surfaces::same(bytes),
         5 => crossings::same(bytes),
         6 => steps::same(bytes),
-        7 => jobs::written(bytes),
+        7 => {
+            jobs::write(bytes, output)?;
+            true
+        }
         8 => traces::same(bytes),
         9 => checks::same(bytes),
         _ => files::same(bytes),
-    }
+    })
 }
 
 // A list of so many records, or as many as there are.
-fn compared(kind: u64, records: u64) -> Tally {
+fn compared<R: Read, W: Write>(
+    kind: u64,
+    records: u64,
+    input: &mut R,
+    output: &mut W,
+) -> io::Result<Tally> {
     let mut tally = tally::none();
     for _ in 0..records {
         let mut bytes = [0u8; RECORD];
-        if !read(kind, &mut bytes) {
+        if !read(kind, input, &mut bytes)? {
             break;
         }
-        tally = tally::counted(tally, same(kind, &bytes));
+        tally = tally::counted(tally, same(kind, &bytes, output)?);
     }
-    tally
+    Ok(tally)
 }
 
 // The line of a list. The lines of the jobs are written one by one.
-fn report(kind: u64, t: Tally) {
+fn report<W: Write>(kind: u64, t: Tally, output: &mut W) -> io::Result<()> {
     match kind {
-        0 => tally::report(b"square roots", t),
-        1 => tally::report(b"tolerances", t),
-        3 => tally::report(b"square solvers", t),
-        4 => tally::report(b"surfaces", t),
-        5 => tally::report(b"crossings", t),
-        6 => tally::report(b"steps of the walk", t),
-        7 => {}
-        8 => tally::report(b"traces", t),
-        9 => tally::report(b"checks", t),
-        _ => tally::report(b"trace files", t),
+        0 => tally::report(output, "square roots", t),
+        1 => tally::report(output, "tolerances", t),
+        3 => tally::report(output, "square solvers", t),
+        4 => tally::report(output, "surfaces", t),
+        5 => tally::report(output, "crossings", t),
+        6 => tally::report(output, "steps of the walk", t),
+        7 => Ok(()),
+        8 => tally::report(output, "traces", t),
+        9 => tally::report(output, "checks", t),
+        _ => tally::report(output, "trace files", t),
     }
 }
 
 // The next list. False where there is none.
-fn list() -> bool {
+fn list<R: Read, W: Write>(input: &mut R, output: &mut W) -> io::Result<bool> {
     let mut head = [0u8; 16];
-    if !words::next(&mut head) {
-        return false;
+    if !words::next(input, &mut head)? {
+        return Ok(false);
     }
     let kind = words::word(&head, 0);
     let records = words::word(&head, 8);
     if kind == STRICT_MATH {
-        strict_math::replay(records);
+        strict_math::replay(records, input, output)?;
     } else {
-        report(kind, compared(kind, records));
+        let tally = compared(kind, records, input, output)?;
+        report(kind, tally, output)?;
     }
-    true
+    Ok(true)
 }
 
 // One list of each kind at most: a proved loop has to end.
-fn main() {
+fn main(rt: HostRuntime) -> io::Result<()> {
+    let mut input = rt.stdin();
+    let mut output = rt.stdout();
     for _ in 0..KINDS {
-        if !list() {
+        if !list(&mut input, &mut output)? {
             break;
         }
     }
+    Ok(())
 }

@@ -3,6 +3,8 @@
 //! and StrictMath's are not.
 use recorded::tally::{Tally, beyond, in_reach, none, report};
 use recorded::words::{next, word};
+use std::io;
+use std::io::{Read, Write};
 
 // What is counted of each function.
 #[derive(Drop)]
@@ -45,28 +47,28 @@ fn nothing() -> Tallies {
     }
 }
 
-fn write(t: Tallies) {
+fn write<W: Write>(t: Tallies, output: &mut W) -> io::Result<()> {
     let sines = t.sines;
     let cosines = t.cosines;
     let beyond = t.beyond;
     let arcs = t.arcs;
     let angles = t.angles;
-    report(b"sine", sines);
-    report(b"cosine", cosines);
-    report(b"sine and cosine beyond reach", beyond);
-    report(b"arc tangent", arcs);
-    report(b"arc tangent of two", angles);
+    report(output, "sine", sines)?;
+    report(output, "cosine", cosines)?;
+    report(output, "sine and cosine beyond reach", beyond)?;
+    report(output, "arc tangent", arcs)?;
+    report(output, "arc tangent of two", angles)
 }
 
 // A list of so many records, or as many as there are.
-pub fn replay(records: u64) {
+pub fn replay<R: Read, W: Write>(records: u64, input: &mut R, output: &mut W) -> io::Result<()> {
     let mut t = nothing();
     for _ in 0..records {
         let mut bytes = [0u8; 48];
-        if !next(&mut bytes) {
+        if !next(input, &mut bytes)? {
             break;
         }
         t = one(t, &bytes);
     }
-    write(t);
+    write(t, output)
 }
