@@ -1,0 +1,15 @@
+use borrow.Author.Rules.{rules}
+use Rattle.capi.proofs.Words.{number_fits, refusal_fits}
+use Rattle.capi.specs.Check.{checked_word}
+use Rattle.capi.proofs.checked_word.Goals as goal
+
+pub refused_word-requires : goal.refused_word-requires
+refused_word-requires c = (rw c.numbers-n.ensures (number_fits c.in-Refused.refusal), rw c.numbers-n.ensures (refusal_fits c.in-Refused.is c.requires))
+
+pub returns-in-Passed : goal.returns-in-Passed
+unfolding checked_word
+returns-in-Passed c = rw c.in-Passed.is
+
+pub returns-in-Refused : goal.returns-in-Refused
+unfolding checked_word
+returns-in-Refused c = rw (c.in-Refused.is, c.refused_word.ensures, c.numbers-n.ensures)

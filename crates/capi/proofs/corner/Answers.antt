@@ -1,0 +1,6 @@
+-- It is the point of the numbers read.
+use borrow.Author.Rules.{rules}
+use Rattle.capi.proofs.corner.Goals as goal
+
+pub returns : goal.returns
+returns c = c.new.ensures

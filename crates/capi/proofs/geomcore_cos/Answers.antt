@@ -1,0 +1,5 @@
+use borrow.Author.Rules.{rules}
+use Rattle.capi.proofs.geomcore_cos.Goals as goal
+
+pub returns : goal.returns
+returns c = c.cos.ensures

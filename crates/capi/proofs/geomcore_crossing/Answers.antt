@@ -1,0 +1,16 @@
+use borrow.Author.Tests.{lt-ltb}
+use Rattle.capi.proofs.Answers.{crossing_word}
+use borrow.Author.Rules.{rules}
+use Rattle.capi.specs.Crossing.{crossing_answer}
+use Rattle.capi.proofs.geomcore_crossing.Goals as goal
+
+pub returns-then-corners-lt6 : goal.returns-then-corners-lt6
+unfolding crossing_answer
+returns-then-corners-lt6 c = rw (lt-ltb _ _ c.if-corners-lt6.true) c.number.ensures
+
+pub returns : goal.returns
+returns c =
+    let g = c.args in
+    let room = c.if-corners-lt6.false in
+    crossing_word g.confusion g.angular g.buffer.now g.count g.corners.now room
+    c.corner.ensures c.corner-2.ensures c.crossing.ensures.answer c.crossed_word.ensures
