@@ -11,7 +11,7 @@ number_byte c = rw c.numbers-n.ensures (number_fits c.in-Refused.refusal)
 
 added_small : (c : After-numbers-n) → (c.numbers-n.result.round < 256) × (c.numbers-n.result.column < 65536)
 added_small c =
-    rw c.numbers-n.ensures (added_told c.in-Refused.is c.before.before.requires)
+    rw c.numbers-n.ensures (added_told c.in-Refused.is c.requires)
 
 pub line_word-requires : goal.line_word-requires
 line_word-requires c = line_fits c.in-Line.is c.requires

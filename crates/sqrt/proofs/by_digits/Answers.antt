@@ -61,11 +61,11 @@ loop-preserved c =
     )
 
 -- the whole number's root, with its remainder, and that it is small
-whole_root : (c : After-loop) → let s = c.before.loop in
-    (s.q * s.q + s.r ≡ c.before.before.args.a * 4503599627370496) × (s.r ≤ 2 * s.q) × (s.q < 2 ^ 53)
+whole_root : (c : After-loop) → let s = c.loop in
+    (s.q * s.q + s.r ≡ c.args.a * 4503599627370496) × (s.r ≤ 2 * s.q) × (s.q < 2 ^ 53)
 whole_root c =
-    let s = c.before.loop in
-    let a = c.before.before.args.a in
+    let s = c.loop in
+    let a = c.args.a in
     let n = s.q * s.q + s.r in
     let z : s.counter ≡ 53 = omega (arith, c.loop-test.false, s.invariant.4) in
     let l = subst (λ (k : ℕ). Left a n s.x (53 - k)) z s.invariant.0 in
