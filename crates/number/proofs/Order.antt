@@ -2,7 +2,7 @@
 -- On finite numbers the order is that of the whole numbers of units.
 use mathlib.Core.Path.{◌≡◌, refl, sym, ap, ◌∙◌, subst}
 use mathlib.Core.Logic.{◌⊎◌, inl, inr}
-use Prim.Native.Nat.{ℕ, zero, suc, ◌+◌, ◌-◌, ◌*◌, ◌/◌, ◌≤◌, ◌<◌, zero-le}
+use Prim.Native.Nat.{ℕ, zero, suc, ◌+◌, ◌*◌, ◌/◌, ◌≤◌, ◌<◌, zero-le}
 use native.Mathlib.Nat.{le_refl, le_trans, le_antisymm, mul_comm, mul_right_comm, mul_assoc, mul-le-mul_right, le_of_mul-le-mul_right}
 use native.Mathlib.Nat.{mul-pos, zero-mul, zero-div, suc-mul, add_comm, div-mul-le_self, le-div_iff_mul-le, le_of_eq}
 use native.Mathlib.Omega.{arith}

@@ -1,4 +1,3 @@
-use borrow.Author.Rules.{rules}
 use Rattle.answer.specs.Answer.{job_answer}
 use Rattle.answer.proofs.Told.{line_tells}
 use Rattle.answer.proofs.answer.Goals as goal

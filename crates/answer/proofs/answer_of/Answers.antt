@@ -1,4 +1,3 @@
-use borrow.Author.Rules.{rules}
 use Rattle.answer.specs.Answer.{answer_of, lent_numbers}
 use Rattle.answer.proofs.answer_of.Goals as goal
 

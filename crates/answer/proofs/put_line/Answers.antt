@@ -1,4 +1,3 @@
-use borrow.Author.Rules.{rules}
 use Rattle.refusal.proofs.Laws.{number_not_0}
 use Rattle.answer.specs.Answer.{answer_line}
 use Rattle.answer.proofs.put_line.Goals as goal

@@ -1,4 +1,3 @@
-use borrow.Author.Rules.{rules}
 use borrow.Author.Tests.{lt-ltb, le-ltb, le-leb, lt-leb, ne_eqb}
 use Rattle.arctangent.specs.Arctangent.{atan_of}
 use Rattle.arctangent.proofs.atan.Goals as goal

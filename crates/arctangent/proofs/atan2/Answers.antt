@@ -1,4 +1,3 @@
-use borrow.Author.Rules.{rules}
 use borrow.Author.Tests.{ne_eqb}
 use Rattle.number.proofs.Sign.{ne_self}
 use Rattle.arctangent.specs.Arctangent.{atan2_of}

@@ -1,4 +1,3 @@
-use borrow.Author.Rules.{rules}
 use Rattle.capi.proofs.Words.{number_fits, refusal_fits}
 use Rattle.capi.specs.Check.{checked_word}
 use Rattle.capi.proofs.checked_word.Goals as goal

@@ -1,5 +1,4 @@
 -- It is the point of the numbers read.
-use borrow.Author.Rules.{rules}
 use Rattle.capi.proofs.corner.Goals as goal
 
 pub returns : goal.returns

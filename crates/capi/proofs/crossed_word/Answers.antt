@@ -1,5 +1,4 @@
 use native.Mathlib.Omega.{arith}
-use borrow.Author.Rules.{rules}
 use Rattle.capi.proofs.crossed_word.Goals as goal
 
 pub returns-in-Yes : goal.returns-in-Yes

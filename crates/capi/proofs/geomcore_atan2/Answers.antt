@@ -1,4 +1,3 @@
-use borrow.Author.Rules.{rules}
 use Rattle.capi.proofs.geomcore_atan2.Goals as goal
 
 pub returns : goal.returns

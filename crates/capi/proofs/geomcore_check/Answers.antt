@@ -1,5 +1,4 @@
 use mathlib.Core.Path.{sym, ◌∙◌}
-use borrow.Author.Rules.{rules}
 use Rattle.capi.proofs.Words.{index_told, checked_word_lem, checked_unread}
 use Rattle.capi.proofs.geomcore_check.Goals as goal
 

@@ -1,4 +1,3 @@
-use borrow.Author.Rules.{rules}
 use Rattle.capi.proofs.geomcore_cos.Goals as goal
 
 pub returns : goal.returns

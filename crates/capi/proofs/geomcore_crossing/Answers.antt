@@ -1,6 +1,5 @@
 use borrow.Author.Tests.{lt-ltb}
 use Rattle.capi.proofs.Answers.{crossing_word}
-use borrow.Author.Rules.{rules}
 use Rattle.capi.specs.Crossing.{crossing_answer}
 use Rattle.capi.proofs.geomcore_crossing.Goals as goal
 

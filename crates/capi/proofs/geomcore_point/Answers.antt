@@ -1,4 +1,3 @@
-use borrow.Author.Rules.{rules}
 use Rattle.capi.specs.Point.{point_answer}
 use Rattle.capi.proofs.geomcore_point.Goals as goal
 

@@ -1,4 +1,3 @@
-use borrow.Author.Rules.{rules}
 use Rattle.capi.proofs.Files.{read_bounded, read_word}
 use Rattle.capi.proofs.geomcore_read_v1.Goals as goal
 

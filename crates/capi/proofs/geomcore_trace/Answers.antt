@@ -1,5 +1,4 @@
 use mathlib.Core.Path.{sym, ◌∙◌}
-use borrow.Author.Rules.{rules}
 use Rattle.capi.proofs.Words.{bounded, traced_word_lem, traced_unread}
 use Rattle.capi.proofs.geomcore_trace.Goals as goal
 

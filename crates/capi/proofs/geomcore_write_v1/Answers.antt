@@ -1,4 +1,3 @@
-use borrow.Author.Rules.{rules}
 use Rattle.capi.proofs.Files.{bytes_fit, written_word_lem}
 use Rattle.capi.proofs.geomcore_write_v1.Goals as goal
 

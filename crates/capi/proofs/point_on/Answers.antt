@@ -1,4 +1,3 @@
-use borrow.Author.Rules.{rules}
 use borrow.Author.Tests.{lt-ltb}
 use Rattle.capi.proofs.Answers.{on_refused, on_located}
 use Rattle.capi.specs.Point.{point_on}

@@ -1,6 +1,5 @@
 -- The parts are small enough for their places.
 use native.Mathlib.Omega.{arith}
-use borrow.Author.Rules.{rules}
 use Rattle.capi.proofs.refused_word.Goals as goal
 
 pub returns : goal.returns

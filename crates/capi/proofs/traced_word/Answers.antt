@@ -1,6 +1,5 @@
 use Prim.Native.Nat.{◌<◌}
 use native.Mathlib.Omega.{arith}
-use borrow.Author.Rules.{rules}
 use Rattle.capi.specs.Trace.{traced_word}
 use Rattle.capi.proofs.Words.{number_fits, line_fits, added_told}
 use Rattle.capi.proofs.traced_word.Goals as goal

@@ -1,5 +1,4 @@
 use native.Mathlib.Omega.{arith}
-use borrow.Author.Rules.{rules}
 use Rattle.capi.specs.File.{written_word}
 use Rattle.capi.proofs.Files.{bytes_small}
 use Rattle.capi.proofs.written_word.Goals as goal

@@ -1,4 +1,3 @@
-use borrow.Author.Rules.{rules}
 use Rattle.example_nine.proofs.moved_frame.Goals as goal
 
 pub returns : goal.returns

@@ -1,5 +1,4 @@
 use mathlib.Core.Path.{◌∙◌}
-use borrow.Author.Rules.{rules}
 use Rattle.geometry.specs.Tolerance.{default_tolerance}
 use Rattle.example_nine.proofs.nine.Goals as goal
 

@@ -1,5 +1,4 @@
 use Rattle.geometry.specs.Vector.{zero_vector}
-use borrow.Author.Rules.{rules}
 use Rattle.example_nine.proofs.unit_frame.Goals as goal
 
 pub returns : goal.returns

@@ -1,4 +1,3 @@
-use borrow.Author.Rules.{rules}
 use borrow.Author.Tests.{le-leb, lt-leb}
 use lib.Ieee.{of_bits, div}
 use Rattle.fdlibm.specs.Sine.{sin_of, cos_of}

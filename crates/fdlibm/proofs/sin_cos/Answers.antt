@@ -1,5 +1,4 @@
 -- Both come from one call.
-use borrow.Author.Rules.{rules}
 use Rattle.fdlibm.proofs.sin_cos.Goals as goal
 
 pub returns : goal.returns

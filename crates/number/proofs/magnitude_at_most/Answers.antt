@@ -1,4 +1,3 @@
-use borrow.Author.Rules.{rules}
 use Rattle.number.proofs.magnitude_at_most.Goals as goal
 
 pub returns : goal.returns

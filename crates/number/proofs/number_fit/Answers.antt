@@ -1,5 +1,4 @@
 -- That of the comparison with 2^20.
-use borrow.Author.Rules.{rules}
 use Rattle.number.specs.Helpers.{number_fit}
 use Rattle.number.proofs.number_fit.Goals as goal
 

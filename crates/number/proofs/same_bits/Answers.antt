@@ -1,4 +1,3 @@
-use borrow.Author.Rules.{rules}
 use Rattle.number.specs.Helpers.{same_bits}
 use Rattle.number.proofs.same_bits.Goals as goal
 

@@ -1,6 +1,5 @@
 use lib.ListN.{length-set}
 use borrow.Author.Tests.{lt-ltb, le-ltb}
-use borrow.Author.Rules.{rules}
 use native.Mathlib.Omega.{arith}
 use Rattle.probe.specs.Probe.{probe2_of}
 use Rattle.probe.proofs.probe_2x2.Goals as goal

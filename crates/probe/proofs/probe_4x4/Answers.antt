@@ -1,6 +1,5 @@
 use lib.ListN.{length-set}
 use borrow.Author.Tests.{lt-ltb, le-ltb}
-use borrow.Author.Rules.{rules}
 use native.Mathlib.Omega.{arith}
 use Rattle.probe.specs.Probe.{probe4_of}
 use Rattle.probe.proofs.probe_4x4.Goals as goal

@@ -1,6 +1,5 @@
 -- Each size has its solver.
 use borrow.Author.Tests.{eq-eqb, ne_eqb}
-use borrow.Author.Rules.{rules}
 use Rattle.probe.specs.Probe.{probe_of}
 use Rattle.probe.proofs.probe_solve.Goals as goal
 

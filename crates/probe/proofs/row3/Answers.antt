@@ -1,7 +1,6 @@
 -- The definition counts the indices one by one.
 use mathlib.Core.Path.{◌≡◌}
 use Prim.Native.Nat.{◌+◌}
-use borrow.Author.Rules.{rules}
 use native.Mathlib.Omega.{arith}
 use Rattle.probe.proofs.row3.Goals as goal
 

@@ -1,5 +1,4 @@
 -- The products' high words are the C's table, by one computed test of its 32 entries.
-use borrow.Author.Rules.{rules}
 use mathlib.Core.Path.{◌≡◌, refl, sym}
 use mathlib.Core.Bool.{Bool, true, false, not, false≢true}
 use Prim.Native.Nat.{ℕ, ◌^◌, ◌<◌}

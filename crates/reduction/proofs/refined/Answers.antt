@@ -1,7 +1,5 @@
 -- The quick test, or the careful steps.
-use borrow.Author.Rules.{rules}
 use borrow.Author.Tests.{lt-ltb, le-ltb}
-use mathlib.Core.Logic.{⊎_elim}
 use Rattle.reduction.specs.Reduction.{refined_of}
 use Rattle.reduction.proofs.refined.Goals as goal
 use Rattle.reduction.proofs.refined.Goals.{else-whole-lt32-via-then-whole-lt32+else-ix-npio2_hw, else-whole-lt32-via-else-whole-lt32}

@@ -1,5 +1,4 @@
 use mathlib.Core.Path.{refl, ap}
-use borrow.Author.Rules.{rules}
 use borrow.Author.Tests.{lt-ltb, le-ltb, le-leb, lt-leb, eq-eqb, ne_eqb}
 use Rattle.loops.proofs.Choice.{pick_taken, pick_left}
 use Rattle.reduction.specs.declared.Reduced.TheVariants.{To}

@@ -1,11 +1,8 @@
 -- Each iteration finds an entry, from the last up.
-use mathlib.Core.Path.{◌≡◌, refl}
-use Prim.Native.Nat.{◌-◌, ◌≤◌}
-use borrow.Author.Rules.{rules}
+use mathlib.Core.Path.{refl}
+use Prim.Native.Nat.{◌-◌}
 use native.Mathlib.Omega.{arith}
-use Rattle.loops.specs.Loop.{ranged}
 use Rattle.loops.proofs.Loop.{ranged_again, ranged_done}
-use Rattle.solve.specs.Solve.{system, back_body, back_substitution}
 use Rattle.solve.proofs.Laws.{row_solved}
 use Rattle.solve.proofs.back3.Goals as goal
 

@@ -1,12 +1,8 @@
 -- Each iteration finds an entry, from the last up.
-use mathlib.Core.Path.{◌≡◌, refl}
+use mathlib.Core.Path.{◌≡◌}
 use Prim.Native.Nat.{◌-◌, ◌≤◌}
-use borrow.Author.Rules.{rules}
-use native.Mathlib.Omega.{arith}
 use Rattle.loops.specs.Loop.{ranged}
-use Rattle.loops.proofs.Loop.{ranged_again, ranged_done}
 use Rattle.solve.specs.Solve.{system, back_body, back_substitution}
-use Rattle.solve.proofs.Laws.{row_solved}
 use Rattle.solve.proofs.back4.Given as goal
 
 abbrev pub invariant-loop-i : goal.invariant-loop-i

@@ -1,12 +1,8 @@
 -- Each iteration eliminates a row, and its right side follows.
-use mathlib.Core.Path.{◌≡◌, refl}
+use mathlib.Core.Path.{◌≡◌}
 use Prim.Native.Nat.{◌-◌, ◌≤◌}
-use borrow.Author.Rules.{rules}
-use native.Mathlib.Omega.{arith}
 use Rattle.loops.specs.Loop.{ranged}
-use Rattle.loops.proofs.Loop.{ranged_again, ranged_done}
 use Rattle.solve.specs.Solve.{system, eliminate_row, eliminated_of}
-use Rattle.solve.proofs.Laws.{row_eliminated_lem}
 use Rattle.solve.proofs.eliminate3.Given as goal
 
 abbrev pub invariant-loop-row : goal.invariant-loop-row

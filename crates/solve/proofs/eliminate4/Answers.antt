@@ -1,11 +1,7 @@
 -- Each iteration eliminates a row, and its right side follows.
-use mathlib.Core.Path.{◌≡◌, refl}
-use Prim.Native.Nat.{◌-◌, ◌≤◌}
-use borrow.Author.Rules.{rules}
+use mathlib.Core.Path.{refl}
 use native.Mathlib.Omega.{arith}
-use Rattle.loops.specs.Loop.{ranged}
 use Rattle.loops.proofs.Loop.{ranged_again, ranged_done}
-use Rattle.solve.specs.Solve.{system, eliminate_row, eliminated_of}
 use Rattle.solve.proofs.Laws.{row_eliminated_lem}
 use Rattle.solve.proofs.eliminate4.Goals as goal
 

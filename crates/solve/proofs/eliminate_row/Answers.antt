@@ -1,12 +1,8 @@
 -- Each iteration takes a multiple of the pivot's entry off, and the row keeps its length.
-use mathlib.Core.Path.{◌≡◌, refl}
-use Prim.Native.Nat.{◌-◌, ◌≤◌}
-use lib.ListN.{length, length-set}
-use borrow.Author.Rules.{rules}
+use mathlib.Core.Path.{refl}
+use lib.ListN.{length-set}
 use native.Mathlib.Omega.{arith}
-use Rattle.loops.specs.Loop.{ranged}
 use Rattle.loops.proofs.Loop.{ranged_again, ranged_done}
-use Rattle.solve.specs.Solve.{entry_reduced, row_eliminated}
 use Rattle.solve.proofs.eliminate_row.Goals as goal
 
 pub loop-k-init : goal.loop-k-init

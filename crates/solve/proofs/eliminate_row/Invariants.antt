@@ -1,11 +1,8 @@
 -- Each iteration takes a multiple of the pivot's entry off, and the row keeps its length.
-use mathlib.Core.Path.{◌≡◌, refl}
+use mathlib.Core.Path.{◌≡◌}
 use Prim.Native.Nat.{◌-◌, ◌≤◌}
-use lib.ListN.{length, length-set}
-use borrow.Author.Rules.{rules}
-use native.Mathlib.Omega.{arith}
+use lib.ListN.{length}
 use Rattle.loops.specs.Loop.{ranged}
-use Rattle.loops.proofs.Loop.{ranged_again, ranged_done}
 use Rattle.solve.specs.Solve.{entry_reduced, row_eliminated}
 use Rattle.solve.proofs.eliminate_row.Given as goal
 

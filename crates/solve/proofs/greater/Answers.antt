@@ -1,6 +1,5 @@
 use mathlib.Core.Path.{◌≡◌, refl}
 use mathlib.Core.Bool.{true, false}
-use borrow.Author.Rules.{rules}
 use Rattle.loops.proofs.Choice.{pick_taken, pick_left}
 use Rattle.solve.specs.Solve.{displaces}
 use Rattle.solve.proofs.greater.Goals as goal

@@ -1,12 +1,8 @@
 -- Each iteration adds a magnitude.
-use mathlib.Core.Path.{◌≡◌, refl, ap}
-use Prim.Native.Nat.{◌-◌, ◌≤◌}
-use borrow.Author.Rules.{rules}
+use mathlib.Core.Path.{refl, ap}
 use native.Mathlib.Omega.{arith}
 use Rattle.number.specs.Operators.{◌⊕◌}
-use Rattle.loops.specs.Loop.{ranged}
 use Rattle.loops.proofs.Loop.{ranged_again, ranged_done}
-use Rattle.solve.specs.Solve.{add_magnitude, magnitudes_of}
 use Rattle.solve.proofs.magnitudes.Goals as goal
 
 pub loop-k-init : goal.loop-k-init

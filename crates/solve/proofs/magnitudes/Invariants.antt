@@ -1,11 +1,7 @@
 -- Each iteration adds a magnitude.
-use mathlib.Core.Path.{◌≡◌, refl, ap}
+use mathlib.Core.Path.{◌≡◌}
 use Prim.Native.Nat.{◌-◌, ◌≤◌}
-use borrow.Author.Rules.{rules}
-use native.Mathlib.Omega.{arith}
-use Rattle.number.specs.Operators.{◌⊕◌}
 use Rattle.loops.specs.Loop.{ranged}
-use Rattle.loops.proofs.Loop.{ranged_again, ranged_done}
 use Rattle.solve.specs.Solve.{add_magnitude, magnitudes_of}
 use Rattle.solve.proofs.magnitudes.Given as goal
 

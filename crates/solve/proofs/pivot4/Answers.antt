@@ -1,12 +1,8 @@
 -- Each iteration keeps the better row, and its entry.
-use mathlib.Core.Path.{◌≡◌, refl}
-use Prim.Native.Nat.{◌-◌, ◌≤◌, ◌<◌}
-use borrow.Author.Rules.{rules}
+use mathlib.Core.Path.{refl}
 use native.Mathlib.Omega.{arith}
-use Rattle.loops.specs.Loop.{ranged}
 use Rattle.loops.proofs.Loop.{ranged_again, ranged_done}
-use Rattle.solve.specs.Cramer.{cell}
-use Rattle.solve.specs.Solve.{better, pivot_of}
+use Rattle.solve.specs.Solve.{better}
 use Rattle.solve.proofs.Laws.{better_below, better_row, better_entry}
 use Rattle.solve.proofs.pivot4.Goals as goal
 

@@ -1,13 +1,9 @@
 -- Each iteration keeps the better row, and its entry.
-use mathlib.Core.Path.{◌≡◌, refl}
+use mathlib.Core.Path.{◌≡◌}
 use Prim.Native.Nat.{◌-◌, ◌≤◌, ◌<◌}
-use borrow.Author.Rules.{rules}
-use native.Mathlib.Omega.{arith}
 use Rattle.loops.specs.Loop.{ranged}
-use Rattle.loops.proofs.Loop.{ranged_again, ranged_done}
 use Rattle.solve.specs.Cramer.{cell}
 use Rattle.solve.specs.Solve.{better, pivot_of}
-use Rattle.solve.proofs.Laws.{better_below, better_row, better_entry}
 use Rattle.solve.proofs.pivot4.Given as goal
 
 abbrev pub invariant-loop-row : goal.invariant-loop-row

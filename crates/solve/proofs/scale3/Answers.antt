@@ -1,12 +1,8 @@
 -- Each iteration adds a row's magnitudes.
-use mathlib.Core.Path.{◌≡◌, refl}
-use Prim.Native.Nat.{◌-◌, ◌≤◌}
+use mathlib.Core.Path.{refl}
 use lib.Ieee.{of_bits, neg}
-use borrow.Author.Rules.{rules}
 use native.Mathlib.Omega.{arith}
-use Rattle.loops.specs.Loop.{ranged}
 use Rattle.loops.proofs.Loop.{ranged_again, ranged_done}
-use Rattle.solve.specs.Solve.{add_row, sum_of_magnitudes}
 use Rattle.solve.proofs.scale3.Goals as goal
 
 pub loop-i-init : goal.loop-i-init

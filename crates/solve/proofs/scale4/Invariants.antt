@@ -1,11 +1,7 @@
 -- Each iteration adds a row's magnitudes.
-use mathlib.Core.Path.{◌≡◌, refl}
+use mathlib.Core.Path.{◌≡◌}
 use Prim.Native.Nat.{◌-◌, ◌≤◌}
-use lib.Ieee.{of_bits, neg}
-use borrow.Author.Rules.{rules}
-use native.Mathlib.Omega.{arith}
 use Rattle.loops.specs.Loop.{ranged}
-use Rattle.loops.proofs.Loop.{ranged_again, ranged_done}
 use Rattle.solve.specs.Solve.{add_row, sum_of_magnitudes}
 use Rattle.solve.proofs.scale4.Given as goal
 

@@ -5,7 +5,6 @@ use Prim.{tt}
 use Prim.Native.Nat.{ℕ}
 use lib.Ieee.{Float}
 use lib.Dec.{lit<, lit≤}
-use borrow.Author.Rules.{rules}
 use Rattle.loops.proofs.Loop.{searched_done}
 use Rattle.solve.specs.Solve.{system, solving, solve_of, solve3_of, answer3, solution}
 use Rattle.solve.proofs.Laws.{starts, goes_on, leaves}

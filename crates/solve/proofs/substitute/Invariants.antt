@@ -1,10 +1,7 @@
 -- Each iteration takes a product off.
-use mathlib.Core.Path.{◌≡◌, refl}
+use mathlib.Core.Path.{◌≡◌}
 use Prim.Native.Nat.{◌-◌, ◌≤◌}
-use borrow.Author.Rules.{rules}
-use native.Mathlib.Omega.{arith}
 use Rattle.loops.specs.Loop.{ranged}
-use Rattle.loops.proofs.Loop.{ranged_again, ranged_done}
 use Rattle.solve.specs.Solve.{less_product, substituted}
 use Rattle.solve.proofs.substitute.Given as goal
 

@@ -1,5 +1,5 @@
 -- `far` and `near` of `AtMost`, or the root itself.
-use Rattle.std.proofs.Common.{sym, rules}
+use Rattle.std.proofs.Common.{sym}
 use denote.Floats.{passes}
 use Rattle.sqrt.proofs.AtMost.{far, near}
 use Rattle.sqrt.proofs.at_most.Goals as goal

@@ -1,6 +1,5 @@
 -- The invariant: the digits found and those left make up the number, before each iteration.
-use Rattle.std.proofs.Common.{◌≡◌, ℕ, suc, ◌+◌, ◌-◌, ◌*◌, ◌/◌, ◌%◌, ◌^◌, ◌<◌, ◌≤◌, sym, ap, ◌∙◌, subst, lt_of_lt_of_le, mod-lt, mod-eq_of_lt, mul_assoc, mul_comm, mul-pos, pow-suc, zero-add, mul-one, arith, lit<, pow_mono, pow-add}
-use Rattle.sqrt.proofs.Root.{nearest_up, nearest_down}
+use Rattle.std.proofs.Common.{◌≡◌, ℕ, ◌+◌, ◌-◌, ◌*◌, ◌^◌, ◌<◌, ◌≤◌}
 use Rattle.sqrt.proofs.by_digits.Given as goal
 
 -- N are the number's first digits and x the next ones, as a fraction of 2 ^ 64; k pairs of digits are left

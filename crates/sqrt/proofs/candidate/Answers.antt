@@ -1,5 +1,5 @@
 -- Its pattern is no NaN's, and a NaN stays one.
-use Rattle.std.proofs.Common.{ℕ, ◌*◌, ◌^◌, ◌≤◌, Bool, not, T, sym, subst, arith, rules}
+use Rattle.std.proofs.Common.{ℕ, ◌*◌, ◌^◌, ◌≤◌, Bool, not, T, sym, subst, arith}
 use lib.Ieee.{Float, nan, inf, fin, binary64, add, sub, mul, div, neg, is_nan, nan_bits}
 use Rattle.number.specs.Operators.{◌⊕◌, ◌⊖◌, ◌⊗◌, ◌⊘◌}
 use Rattle.sqrt.proofs.Pattern.{no_nan_bits}

@@ -1,4 +1,4 @@
-use Rattle.std.proofs.Common.{◌≡◌, ℕ, ◌+◌, ◌*◌, ◌/◌, ◌%◌, ◌^◌, ◌<◌, ◌≤◌, sym, ◌∙◌, le_of_lt, mod-eq_of_lt, mul-le-mul, arith, rules, ltb-true}
+use Rattle.std.proofs.Common.{◌≡◌, ℕ, ◌+◌, ◌*◌, ◌/◌, ◌%◌, ◌^◌, ◌<◌, ◌≤◌, sym, ◌∙◌, le_of_lt, mod-eq_of_lt, mul-le-mul, arith, ltb-true}
 use mathlib.Core.Bool.{false≢true}
 use Rattle.sqrt.specs.Nearest.{Nearest, Pieces}
 use Rattle.sqrt.proofs.is_nearest.Goals as goal

@@ -1,5 +1,5 @@
 -- The candidate where the test passes it, else the digits one by one.
-use Rattle.std.proofs.Common.{◌≡◌, ℕ, ◌+◌, ◌*◌, ◌%◌, ◌^◌, ◌<◌, ◌≤◌, true, not, T, sym, subst, lt_of_lt_of_le, arith, lit<, lit≤, rules}
+use Rattle.std.proofs.Common.{◌≡◌, ℕ, ◌+◌, ◌*◌, ◌%◌, ◌^◌, ◌<◌, ◌≤◌, true, not, T, sym, subst, lt_of_lt_of_le, arith, lit<, lit≤}
 use mathlib.Core.Bool.{false≢true}
 use lib.Bits.{bit_and, mask_lt}
 use lib.Ieee.{Float, nan, inf, fin, binary64, eq, is_nan, to_bits}

@@ -1,5 +1,5 @@
 -- The digits and the halved exponent are the bits of the root.
-use Rattle.std.proofs.Common.{ℕ, ◌+◌, ◌*◌, ◌/◌, ◌%◌, ◌^◌, ◌<◌, ◌≤◌, Bool, not, T, sym, ap, ◌∙◌, subst, arith, rules}
+use Rattle.std.proofs.Common.{ℕ, ◌+◌, ◌*◌, ◌/◌, ◌%◌, ◌^◌, ◌<◌, ◌≤◌, Bool, not, T, sym, ap, ◌∙◌, subst, arith}
 use Rattle.sqrt.specs.Sqrt.{round_root}
 use Rattle.sqrt.proofs.Rounded.{rounded, digits_lo, digits_hi}
 use Rattle.sqrt.proofs.Pattern.{bits_units, no_nan_bits}

@@ -1,5 +1,5 @@
 -- The shift takes no bit off.
-use Rattle.std.proofs.Common.{◌≡◌, ℕ, zero, suc, ◌+◌, ◌-◌, ◌*◌, ◌%◌, ◌^◌, ◌<◌, ◌≤◌, sym, refl, ap, ◌∙◌, subst, add_comm, mul-one, arith, lit≤, rules}
+use Rattle.std.proofs.Common.{◌≡◌, ℕ, zero, suc, ◌+◌, ◌-◌, ◌*◌, ◌%◌, ◌^◌, ◌<◌, ◌≤◌, sym, refl, ap, ◌∙◌, subst, add_comm, mul-one, arith, lit≤}
 use lib.Count.{count_leading_zeros, leading_le}
 use Rattle.number.specs.Units.{units_in_one}
 use Rattle.sqrt.specs.Nearest.{IsScaled, units_of}

@@ -1,4 +1,3 @@
-use borrow.Author.Rules.{rules}
 use Rattle.tangent.specs.Tangent.{normal_of}
 use Rattle.tangent.proofs.normal.Goals as goal
 

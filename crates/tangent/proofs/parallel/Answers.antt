@@ -1,5 +1,4 @@
 -- The quick test, or the roots.
-use borrow.Author.Rules.{rules}
 use mathlib.Core.Path.{sym}
 use denote.Floats.{passes}
 use Rattle.tangent.proofs.Roots.{Moderate, not_parallel}

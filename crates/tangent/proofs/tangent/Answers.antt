@@ -1,4 +1,3 @@
-use borrow.Author.Rules.{rules}
 use Rattle.tangent.specs.Tangent.{tangent_of}
 use Rattle.tangent.proofs.tangent.Goals as goal
 

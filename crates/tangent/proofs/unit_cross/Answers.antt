@@ -1,4 +1,3 @@
-use borrow.Author.Rules.{rules}
 use mathlib.Core.Path.{◌≡◌, refl, sym}
 use Rattle.sqrt.specs.Sqrt.{sqrt_of}
 use Rattle.geometry.specs.declared.vector.Vector3D.{Vector3D}

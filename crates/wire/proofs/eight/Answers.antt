@@ -1,4 +1,3 @@
-use borrow.Author.Rules.{rules}
 use native.Mathlib.Omega.{arith}
 use Rattle.wire.specs.Wire.{eight_at}
 use Rattle.wire.proofs.eight.Goals as goal

@@ -1,4 +1,3 @@
-use borrow.Author.Rules.{rules}
 use Rattle.wire.specs.Wire.{number_at}
 use Rattle.wire.proofs.number.Goals as goal
 

@@ -1,4 +1,3 @@
-use borrow.Author.Rules.{rules}
 use Rattle.wire.specs.Wire.{byte_at}
 use Rattle.wire.proofs.one.Goals as goal
 

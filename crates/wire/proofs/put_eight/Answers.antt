@@ -1,6 +1,5 @@
 use Prim.Native.Nat.{◌/◌, ◌%◌}
 use native.Mathlib.Omega.{arith}
-use borrow.Author.Rules.{rules}
 use Rattle.wire.specs.Wire.{four_bytes, eight_bytes}
 use Rattle.loops.proofs.Over.{over_next}
 use Rattle.wire.proofs.Laws.{four_length}

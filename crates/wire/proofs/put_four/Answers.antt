@@ -1,6 +1,5 @@
 use Prim.Native.Nat.{◌/◌, ◌%◌}
 use native.Mathlib.Omega.{arith}
-use borrow.Author.Rules.{rules}
 use Rattle.wire.specs.Wire.{two_bytes, four_bytes}
 use Rattle.loops.proofs.Over.{over_next}
 use Rattle.wire.proofs.Laws.{two_length}

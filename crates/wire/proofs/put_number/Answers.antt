@@ -1,6 +1,5 @@
 use mathlib.Core.Path.{ap, ◌∙◌}
 use Prim.Native.Nat.{ℕ}
-use borrow.Author.Rules.{rules}
 use Rattle.wire.specs.Wire.{eight_bytes, number_bytes}
 use Rattle.loops.specs.Over.{over}
 use Rattle.wire.specs.Wire.{number_bytes}

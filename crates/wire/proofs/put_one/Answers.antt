@@ -1,6 +1,5 @@
 use native.Mathlib.Numerals.{towards_suc}
 use lib.Seq.{sets-eq}
-use borrow.Author.Rules.{rules}
 use Rattle.wire.specs.Wire.{one_byte}
 use Rattle.wire.proofs.put_one.Goals as goal
 

@@ -1,7 +1,6 @@
 use mathlib.Core.Path.{refl}
 use Prim.Native.Nat.{◌/◌, ◌%◌}
 use native.Mathlib.Omega.{arith}
-use borrow.Author.Rules.{rules}
 use Rattle.wire.specs.Wire.{one_byte, two_bytes}
 use Rattle.loops.proofs.Over.{over_next}
 use Rattle.wire.proofs.put_two.Goals as goal

@@ -1,4 +1,3 @@
-use borrow.Author.Rules.{rules}
 use Rattle.geometry.proofs.Scaled.{times_scale}
 use Rattle.analytic.specs.Surface.{combination_of}
 use Rattle.analytic.proofs.analytic.combination.Goals as goal

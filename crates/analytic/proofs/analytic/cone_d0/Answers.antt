@@ -1,4 +1,3 @@
-use borrow.Author.Rules.{rules}
 use Rattle.analytic.specs.Surface.{eval_point}
 use Rattle.analytic.proofs.analytic.cone_d0.Goals as goal
 

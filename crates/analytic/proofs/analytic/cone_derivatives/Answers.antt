@@ -1,4 +1,3 @@
-use borrow.Author.Rules.{rules}
 use Rattle.analytic.specs.Surface.{eval_d1}
 use Rattle.analytic.proofs.analytic.cone_derivatives.Goals as goal
 

@@ -1,4 +1,3 @@
-use borrow.Author.Rules.{rules}
 use Rattle.geometry.proofs.Scaled.{times_scale}
 use Rattle.analytic.specs.Surface.{eval_d1}
 use Rattle.analytic.proofs.analytic.sphere_derivatives.Goals as goal

@@ -1,4 +1,3 @@
-use borrow.Author.Rules.{rules}
 use borrow.Author.Tests.{lt-ltb, le-ltb}
 use Rattle.arctangent.specs.Arctangent.{folded_of}
 use Rattle.arctangent.proofs.arctangent.atan_folded.Goals as goal

@@ -1,4 +1,3 @@
-use borrow.Author.Rules.{rules}
 use borrow.Author.Tests.{ne_eqb}
 use Rattle.arctangent.specs.Arctangent.{far_along}
 use Rattle.arctangent.proofs.arctangent.far_along.Goals as goal

@@ -1,4 +1,3 @@
-use borrow.Author.Rules.{rules}
 use Rattle.arctangent.specs.Arctangent.{from_known}
 use Rattle.arctangent.proofs.arctangent.from_known.Goals as goal
 

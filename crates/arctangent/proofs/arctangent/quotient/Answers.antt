@@ -1,6 +1,4 @@
-use borrow.Author.Rules.{rules}
 use borrow.Author.Tests.{le-leb, lt-leb, ne_eqb}
-use mathlib.Core.Logic.{⊎_elim}
 use Rattle.arctangent.specs.Arctangent.{quotient_of}
 use Rattle.arctangent.proofs.arctangent.quotient.Goals as goal
 use Rattle.arctangent.proofs.arctangent.quotient.Goals.{else-x_sign-eq1-via-then-x_sign-eq1+else-iy-ix, else-x_sign-eq1-via-else-x_sign-eq1}

@@ -1,4 +1,3 @@
-use borrow.Author.Rules.{rules}
 use Rattle.boxes.specs.Bounds.{boxes_apart}
 use Rattle.boxes.proofs.boxtree.boxes_apart.Goals as goal
 

@@ -1,6 +1,5 @@
 use mathlib.Core.Path.{◌≡◌, sym, ◌∙◌}
 use mathlib.Core.Bool.{true}
-use borrow.Author.Rules.{rules}
 use Rattle.geometry.specs.Point.{point_fit}
 use Rattle.boxes.specs.Crossing.{box_fit}
 use Rattle.boxes.proofs.crossing.box_fit.Goals as goal

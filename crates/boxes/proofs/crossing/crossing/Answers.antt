@@ -1,6 +1,5 @@
 use mathlib.Core.Path.{sym, ◌∙◌}
 use native.Mathlib.Omega.{arith}
-use borrow.Author.Rules.{rules}
 use Rattle.boxes.specs.Crossing.{crossing_of}
 use Rattle.boxes.proofs.Counted.{tests_fit}
 use Rattle.boxes.proofs.crossing.crossing.Goals as goal

@@ -3,7 +3,6 @@ use borrow.Author.Tests.{not-false, not-true}
 use mathlib.Core.Path.{sym, ◌∙◌}
 use Rattle.groups.specs.Groups.{width}
 use Rattle.groups.proofs.Groups.{holds_length}
-use borrow.Author.Rules.{rules}
 use Rattle.boxes.specs.Crossing.{crossing_fitness}
 use Rattle.boxes.proofs.crossing.crossing_fitness.Goals as goal
 

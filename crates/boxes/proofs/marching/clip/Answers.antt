@@ -1,7 +1,6 @@
 use mathlib.Core.Path.{◌≡◌}
 use mathlib.Core.Bool.{true, false}
 use lib.Ieee.{Float}
-use borrow.Author.Rules.{rules}
 use Rattle.number.specs.Operators.{bits, ◌<?◌, ◌==?◌}
 use Rattle.boxes.specs.declared.marching.Span.{Span}
 use Rattle.boxes.specs.declared.marching.Clipped.TheVariants.{Meets, Misses}

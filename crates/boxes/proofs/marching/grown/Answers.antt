@@ -1,4 +1,3 @@
-use borrow.Author.Rules.{rules}
 use Rattle.boxes.specs.Crosses.{grown_of}
 use Rattle.boxes.proofs.marching.grown.Goals as goal
 

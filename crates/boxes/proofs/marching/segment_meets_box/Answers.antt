@@ -1,5 +1,4 @@
 use mathlib.Core.Path.{sym, ap, ◌∙◌}
-use borrow.Author.Rules.{rules}
 use Rattle.boxes.specs.Segment.{met, segment_meets_box}
 use Rattle.boxes.proofs.marching.segment_meets_box.Goals as goal
 

@@ -1,11 +1,9 @@
 -- The search goes on as the definition's does, each run as a part of the trace.
-use mathlib.Core.Path.{◌≡◌, refl, ◌∙◌}
-use Prim.Native.Nat.{◌-◌, ◌≤◌, ◌<◌}
-use Rattle.loops.specs.Any.{any_in}
+use mathlib.Core.Path.{refl, ◌∙◌}
+use Prim.Native.Nat.{◌<◌}
 use Rattle.loops.proofs.Any.{any_again, any_leave, any_done}
 use Rattle.boxes.specs.Crosses.{run_start, run_at, runs_of, some_run}
 use Rattle.boxes.proofs.Iterations.{run_iteration, run_holds}
-use borrow.Author.Rules.{rules}
 use native.Mathlib.Omega.{arith}
 use Rattle.boxes.proofs.marching.some_run.Goals as goal
 

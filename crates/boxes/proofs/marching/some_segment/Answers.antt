@@ -1,11 +1,9 @@
 -- The search goes on as the definition's does.
-use mathlib.Core.Path.{◌≡◌, refl, ◌∙◌}
-use Prim.Native.Nat.{◌-◌, ◌≤◌}
-use Rattle.loops.specs.Any.{any_in}
+use mathlib.Core.Path.{refl, ◌∙◌}
+use Prim.Native.Nat.{◌-◌}
 use Rattle.loops.proofs.Any.{any_again, any_leave, any_done}
 use Rattle.boxes.specs.Crosses.{segment_meets, some_segment}
 use Rattle.boxes.proofs.Iterations.{segment_iteration}
-use borrow.Author.Rules.{rules}
 use native.Mathlib.Omega.{arith}
 use Rattle.boxes.proofs.marching.some_segment.Goals as goal
 

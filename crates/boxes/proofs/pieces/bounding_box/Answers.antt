@@ -1,11 +1,7 @@
 -- The box grows as the definition's does.
-use mathlib.Core.Path.{◌≡◌}
-use Prim.Native.Nat.{◌-◌, ◌≤◌}
-use Rattle.loops.specs.Loop.{ranged}
 use Rattle.loops.proofs.Loop.{ranged_again, ranged_done}
-use Rattle.boxes.specs.Bounds.{cover_at, bounds_of}
+use Rattle.boxes.specs.Bounds.{bounds_of}
 use Rattle.boxes.proofs.Iterations.{cover_iteration}
-use borrow.Author.Rules.{rules}
 use native.Mathlib.Omega.{arith}
 use Rattle.boxes.proofs.pieces.bounding_box.Goals as goal
 

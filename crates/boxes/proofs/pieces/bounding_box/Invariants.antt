@@ -2,11 +2,7 @@
 use mathlib.Core.Path.{◌≡◌}
 use Prim.Native.Nat.{◌-◌, ◌≤◌}
 use Rattle.loops.specs.Loop.{ranged}
-use Rattle.loops.proofs.Loop.{ranged_again, ranged_done}
 use Rattle.boxes.specs.Bounds.{cover_at, bounds_of}
-use Rattle.boxes.proofs.Iterations.{cover_iteration}
-use borrow.Author.Rules.{rules}
-use native.Mathlib.Omega.{arith}
 use Rattle.boxes.proofs.pieces.bounding_box.Given as goal
 
 abbrev pub invariant-loop-i : goal.invariant-loop-i

@@ -1,4 +1,3 @@
-use borrow.Author.Rules.{rules}
 use Rattle.boxes.specs.Bounds.{cover_of}
 use Rattle.boxes.proofs.pieces.cover.Goals as goal
 

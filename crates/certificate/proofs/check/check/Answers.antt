@@ -3,7 +3,6 @@ use borrow.Author.Tests.{not-false, not-true}
 use mathlib.Core.Path.{sym, ◌∙◌}
 use Rattle.refusal.proofs.Order.{last_test_lem}
 use Rattle.certificate.specs.Check.{check_of}
-use borrow.Author.Rules.{rules}
 use Rattle.certificate.proofs.check.check.Goals as goal
 
 pub returns-then-not-holds : goal.returns-then-not-holds

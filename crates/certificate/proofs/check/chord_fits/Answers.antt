@@ -2,7 +2,6 @@ use borrow.Author.Tests.{eq-eqb, ne_eqb}
 use mathlib.Core.Path.{◌≡◌}
 use Rattle.certificate.specs.Passes.{closing_chord}
 use Rattle.certificate.specs.Check.{chord_fits}
-use borrow.Author.Rules.{rules}
 use Rattle.certificate.proofs.check.chord_fits.Goals as goal
 
 pub returns-then-i-eq0 : goal.returns-then-i-eq0

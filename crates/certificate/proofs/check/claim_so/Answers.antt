@@ -1,6 +1,5 @@
 use borrow.Author.Tests.{lt-ltb, le-ltb}
 use Rattle.certificate.specs.Check.{claim_so}
-use borrow.Author.Rules.{rules}
 use Rattle.certificate.proofs.check.claim_so.Goals as goal
 
 pub returns-then-start-count : goal.returns-then-start-count

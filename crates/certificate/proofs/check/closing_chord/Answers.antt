@@ -1,5 +1,4 @@
 use borrow.Author.Tests.{eq-eqb, ne_eqb}
-use borrow.Author.Rules.{rules}
 use Rattle.certificate.proofs.check.closing_chord.Goals as goal
 
 pub returns-then-closing-eq1 : goal.returns-then-closing-eq1

@@ -1,6 +1,5 @@
 use borrow.Author.Tests.{eq-eqb, ne_eqb, le-leb, lt-leb}
 use Rattle.certificate.specs.Check.{closing_so}
-use borrow.Author.Rules.{rules}
 use Rattle.certificate.proofs.check.closing_so.Goals as goal
 
 pub returns-then-closing-eq0 : goal.returns-then-closing-eq0

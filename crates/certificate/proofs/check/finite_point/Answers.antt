@@ -1,5 +1,4 @@
 use Rattle.certificate.specs.Check.{finite_point}
-use borrow.Author.Rules.{rules}
 use Rattle.certificate.proofs.check.finite_point.Goals as goal
 
 pub returns-then-is_finite-2 : goal.returns-then-is_finite-2

@@ -1,5 +1,4 @@
 use Rattle.certificate.specs.Check.{own_of}
-use borrow.Author.Rules.{rules}
 use Rattle.certificate.proofs.check.own.Goals as goal
 
 pub returns-then-finite_point : goal.returns-then-finite_point

@@ -4,7 +4,6 @@ use mathlib.Core.Path.{◌≡◌}
 use Rattle.patch.specs.Patch.{inside_of}
 use Rattle.certificate.specs.Passes.{parameters_in}
 use Rattle.certificate.specs.Check.{point_verdict}
-use borrow.Author.Rules.{rules}
 use Rattle.certificate.proofs.check.point_verdict.Goals as goal
 
 pub returns-then-not-inside : goal.returns-then-not-inside

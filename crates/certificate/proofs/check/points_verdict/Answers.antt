@@ -1,12 +1,9 @@
 -- The search goes on as the definition's does; `before` is the row before the one that is read.
-use mathlib.Core.Path.{◌≡◌, refl}
-use Prim.Native.Nat.{◌-◌, ◌≤◌}
-use Rattle.loops.specs.Loop.{on, searched}
+use mathlib.Core.Path.{refl}
 use Rattle.loops.proofs.Loop.{searched_again, searched_leave, searched_done}
 use Rattle.groups.specs.Row.{row_of}
-use Rattle.certificate.specs.Check.{is_own, point_body, all_passed, points_verdict}
+use Rattle.certificate.specs.Check.{all_passed, points_verdict}
 use Rattle.certificate.proofs.Iterations.{point_out, point_on_lem, row_kept}
-use borrow.Author.Rules.{rules}
 use native.Mathlib.Omega.{arith}
 use Rattle.certificate.proofs.check.points_verdict.Goals as goal
 

@@ -1,7 +1,6 @@
 use mathlib.Core.Path.{◌≡◌, refl, sym, ◌∙◌}
 use mathlib.Core.Bool.{Bool, true, false, ◌&&◌}
 use Rattle.certificate.specs.Check.{same_numbers}
-use borrow.Author.Rules.{rules}
 use Rattle.certificate.proofs.check.same_point.Goals as goal
 
 last : (t : Bool) → t && true ≡ t

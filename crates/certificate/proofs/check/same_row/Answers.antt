@@ -1,11 +1,6 @@
 -- The search goes on as the definition's does.
-use mathlib.Core.Path.{◌≡◌, refl}
-use Prim.Native.Nat.{◌-◌, ◌≤◌}
-use lib.ListN.{drop}
-use borrow.Author.Rules.{rules}
+use mathlib.Core.Path.{refl}
 use native.Mathlib.Omega.{arith}
-use Rattle.groups.specs.Groups.{width}
-use Rattle.certificate.specs.Check.{same_numbers}
 use Rattle.certificate.proofs.Iterations.{number_out, number_on, numbers_done}
 use Rattle.certificate.proofs.check.same_row.Goals as goal
 

@@ -1,12 +1,9 @@
 -- The search goes on as the definition's does.
-use mathlib.Core.Path.{◌≡◌, refl}
+use mathlib.Core.Path.{◌≡◌}
 use Prim.Native.Nat.{◌-◌, ◌≤◌}
 use lib.ListN.{drop}
-use borrow.Author.Rules.{rules}
-use native.Mathlib.Omega.{arith}
 use Rattle.groups.specs.Groups.{width}
 use Rattle.certificate.specs.Check.{same_numbers}
-use Rattle.certificate.proofs.Iterations.{number_out, number_on, numbers_done}
 use Rattle.certificate.proofs.check.same_row.Given as goal
 
 abbrev pub invariant-loop-k : goal.invariant-loop-k

@@ -1,4 +1,3 @@
-use borrow.Author.Rules.{rules}
 use borrow.Author.Tests.{lt-ltb, le-ltb}
 use Rattle.fdlibm.specs.Kernel.{kernel_cos}
 use Rattle.fdlibm.proofs.kernel.kernel_cos.Goals as goal

@@ -1,5 +1,4 @@
 -- One test of the high word stands for that of either.
-use borrow.Author.Rules.{rules}
 use borrow.Author.Tests.{lt-ltb}
 use Rattle.fdlibm.specs.Kernel.{kernel_sin, kernel_cos}
 use Rattle.fdlibm.proofs.kernel.kernels.Goals as goal

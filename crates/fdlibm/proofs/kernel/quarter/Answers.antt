@@ -1,5 +1,4 @@
 -- The high word is that of a number below 1, and no shift loses a bit.
-use borrow.Author.Rules.{rules}
 use borrow.Author.Tests.{lt-ltb, le-ltb}
 use native.Mathlib.Omega.{arith}
 use mathlib.Core.Path.{◌≡◌, sym, subst}

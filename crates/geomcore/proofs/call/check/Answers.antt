@@ -1,5 +1,4 @@
 -- What passing means is `check_promised`.
-use borrow.Author.Rules.{rules}
 use Rattle.passing.proofs.Promised.{check_promised}
 use Rattle.geomcore.proofs.call.check.Goals as goal
 

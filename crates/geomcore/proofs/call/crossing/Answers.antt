@@ -1,5 +1,4 @@
 -- What yes means is `crossing_promised`.
-use borrow.Author.Rules.{rules}
 use Rattle.passing.proofs.Promised.{crossing_promised}
 use Rattle.geomcore.proofs.call.crossing.Goals as goal
 

@@ -1,4 +1,3 @@
-use borrow.Author.Rules.{rules}
 use Rattle.geomcore.proofs.call.point.Goals as goal
 
 pub returns : goal.returns

@@ -1,5 +1,4 @@
 -- What the file stands for is `read_promised`.
-use borrow.Author.Rules.{rules}
 use Rattle.trace_file.specs.Layout.{version1, width1}
 use Rattle.passing.proofs.Filed.{read_promised}
 use Rattle.geomcore.proofs.call.read_v1.Goals as goal

@@ -1,6 +1,5 @@
 -- That its lines pass is `trace_promised`.
 use mathlib.Core.Path.{ap}
-use borrow.Author.Rules.{rules}
 use Rattle.groups.specs.Traced.{Outcome}
 use Rattle.passing.proofs.Promised.{trace_promised}
 use Rattle.geomcore.proofs.call.trace.Goals as goal

@@ -1,5 +1,4 @@
 -- What the file stands for is `write_v1_promised`.
-use borrow.Author.Rules.{rules}
 use Rattle.passing.proofs.Filed.{write_v1_promised}
 use Rattle.geomcore.proofs.call.write_v1.Goals as goal
 

@@ -1,5 +1,4 @@
 -- Number by number.
-use borrow.Author.Rules.{rules}
 use mathlib.Core.Path.{refl}
 use Rattle.groups.proofs.row.read.Goals as goal
 

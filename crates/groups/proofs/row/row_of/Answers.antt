@@ -1,4 +1,3 @@
-use borrow.Author.Rules.{rules}
 use borrow.Author.Tests.{lt-ltb, le-ltb}
 use Rattle.groups.specs.Row.{row_of}
 use Rattle.groups.proofs.row.row_of.Goals as goal

@@ -1,4 +1,3 @@
-use borrow.Author.Rules.{rules}
 use Rattle.job.specs.File.{direction_at}
 use Rattle.job.proofs.file.direction.Goals as goal
 

@@ -1,4 +1,3 @@
-use borrow.Author.Rules.{rules}
 use Rattle.job.specs.File.{frame_at}
 use Rattle.job.proofs.file.frame.Goals as goal
 

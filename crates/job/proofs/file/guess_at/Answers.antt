@@ -1,4 +1,3 @@
-use borrow.Author.Rules.{rules}
 use Rattle.job.specs.File.{guess_at}
 use Rattle.job.proofs.file.guess_at.Goals as goal
 

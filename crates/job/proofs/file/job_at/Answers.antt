@@ -1,4 +1,3 @@
-use borrow.Author.Rules.{rules}
 use Rattle.job.specs.File.{job_at}
 use Rattle.job.proofs.file.job_at.Goals as goal
 

@@ -1,4 +1,3 @@
-use borrow.Author.Rules.{rules}
 use Rattle.job.specs.File.{patch_at}
 use Rattle.job.proofs.file.patch_at.Goals as goal
 

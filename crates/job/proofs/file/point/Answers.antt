@@ -1,4 +1,3 @@
-use borrow.Author.Rules.{rules}
 use Rattle.job.specs.File.{origin_at}
 use Rattle.job.proofs.file.point.Goals as goal
 

@@ -1,4 +1,3 @@
-use borrow.Author.Rules.{rules}
 use borrow.Author.Tests.{eq-eqb, ne_eqb}
 use Rattle.job.specs.Layout.{job_bytes, following}
 use Rattle.job.specs.File.{job_of}

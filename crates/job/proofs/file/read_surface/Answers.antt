@@ -1,4 +1,3 @@
-use borrow.Author.Rules.{rules}
 use borrow.Author.Tests.{le-ltb, lt-ltb}
 use Rattle.job.specs.Layout.{surface_bytes}
 use Rattle.job.specs.File.{surface_file}

@@ -1,4 +1,3 @@
-use borrow.Author.Rules.{rules}
 use borrow.Author.Tests.{le-ltb, lt-ltb, not-true, not-false}
 use Rattle.job.specs.Layout.{both_marks}
 use Rattle.job.specs.File.{surface_at}

@@ -1,4 +1,3 @@
-use borrow.Author.Rules.{rules}
 use Rattle.job.specs.File.{window_at}
 use Rattle.job.proofs.file.window.Goals as goal
 

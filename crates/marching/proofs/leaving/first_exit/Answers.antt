@@ -1,4 +1,3 @@
-use borrow.Author.Rules.{rules}
 use Rattle.marching.specs.Leaving.{first_exit}
 use Rattle.marching.proofs.leaving.first_exit.Goals as goal
 

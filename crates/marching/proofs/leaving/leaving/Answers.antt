@@ -1,4 +1,3 @@
-use borrow.Author.Rules.{rules}
 use Rattle.marching.specs.Leaving.{leaving_of}
 use Rattle.marching.proofs.leaving.leaving.Goals as goal
 

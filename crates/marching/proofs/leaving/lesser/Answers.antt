@@ -1,5 +1,4 @@
 use mathlib.Core.Path.{refl}
-use borrow.Author.Rules.{rules}
 use Rattle.loops.proofs.Choice.{pick_taken, pick_left}
 use Rattle.marching.specs.Leaving.{lesser_of}
 use Rattle.marching.proofs.leaving.lesser.Goals as goal

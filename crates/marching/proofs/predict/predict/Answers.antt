@@ -1,4 +1,3 @@
-use borrow.Author.Rules.{rules}
 use Rattle.marching.specs.Predict.{shift_of, predict_of}
 use Rattle.marching.proofs.predict.predict.Goals as goal
 

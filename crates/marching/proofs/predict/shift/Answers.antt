@@ -1,5 +1,4 @@
 use mathlib.Core.Path.{sym, ap, ◌∙◌}
-use borrow.Author.Rules.{rules}
 use Rattle.marching.specs.Predict.{or_zero}
 use Rattle.marching.proofs.predict.shift.Goals as goal
 

@@ -1,5 +1,4 @@
 use borrow.Author.Tests.{le-ltb, lt-ltb}
-use borrow.Author.Rules.{rules}
 use Rattle.meeting.specs.Correction.{free_of}
 use Rattle.meeting.proofs.correction.free.Goals as goal
 

@@ -1,4 +1,3 @@
-use borrow.Author.Rules.{rules}
 use Rattle.meeting.specs.Correction.{free_correction}
 use Rattle.meeting.proofs.correction.free_correction.Goals as goal
 

@@ -1,4 +1,3 @@
-use borrow.Author.Rules.{rules}
 use Rattle.meeting.specs.Correction.{columns_of}
 use Rattle.meeting.proofs.correction.jacobian.Goals as goal
 

@@ -1,4 +1,3 @@
-use borrow.Author.Rules.{rules}
 use Rattle.meeting.specs.Correction.{correction_of}
 use Rattle.meeting.proofs.correction.newton_correction.Goals as goal
 

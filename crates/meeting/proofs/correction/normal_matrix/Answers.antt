@@ -1,4 +1,3 @@
-use borrow.Author.Rules.{rules}
 use Rattle.meeting.proofs.Symmetric.{symmetric}
 use Rattle.meeting.proofs.correction.normal_matrix.Goals as goal
 

@@ -1,4 +1,3 @@
-use borrow.Author.Rules.{rules}
 use Rattle.meeting.specs.Correction.{offset_of}
 use Rattle.meeting.proofs.correction.offset.Goals as goal
 

@@ -1,5 +1,4 @@
 use mathlib.Core.Path.{sym, ap, ◌∙◌}
-use borrow.Author.Rules.{rules}
 use Rattle.meeting.specs.Correction.{by_three, pin_correction}
 use Rattle.meeting.proofs.correction.pin_correction.Goals as goal
 

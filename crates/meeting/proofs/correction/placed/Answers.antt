@@ -1,4 +1,3 @@
-use borrow.Author.Rules.{rules}
 use Rattle.meeting.specs.Correction.{placed_of}
 use Rattle.meeting.proofs.correction.placed.Goals as goal
 

@@ -1,5 +1,4 @@
 use mathlib.Core.Path.{sym, ap, ◌∙◌}
-use borrow.Author.Rules.{rules}
 use Rattle.meeting.specs.Correction.{by_four, plane_correction}
 use Rattle.meeting.proofs.correction.plane_correction.Goals as goal
 

@@ -1,4 +1,3 @@
-use borrow.Author.Rules.{rules}
 use Rattle.meeting.specs.Correction.{residual_of}
 use Rattle.meeting.proofs.correction.residual_at.Goals as goal
 

@@ -1,4 +1,3 @@
-use borrow.Author.Rules.{rules}
 use Rattle.meeting.specs.Correction.{shifted_of}
 use Rattle.meeting.proofs.correction.shifted.Goals as goal
 

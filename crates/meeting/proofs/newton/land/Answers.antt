@@ -1,4 +1,3 @@
-use borrow.Author.Rules.{rules}
 use Rattle.meeting.specs.Newton.{land_of}
 use Rattle.meeting.proofs.Rounds.{newton_promised}
 use Rattle.meeting.proofs.newton.land.Goals as goal

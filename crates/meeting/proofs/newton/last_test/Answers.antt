@@ -1,6 +1,5 @@
 use mathlib.Core.Path.{◌≡◌, sym, ◌∙◌}
 use mathlib.Core.Bool.{true, false}
-use borrow.Author.Rules.{rules}
 use Rattle.meeting.specs.Newton.{near_of, last_test}
 use Rattle.meeting.proofs.newton.last_test.Goals as goal
 

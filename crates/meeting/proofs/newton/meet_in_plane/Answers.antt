@@ -1,4 +1,3 @@
-use borrow.Author.Rules.{rules}
 use Rattle.meeting.specs.Newton.{meet_in_plane_of}
 use Rattle.meeting.proofs.Rounds.{newton_promised}
 use Rattle.meeting.proofs.newton.meet_in_plane.Goals as goal

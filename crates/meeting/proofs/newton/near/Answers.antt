@@ -1,6 +1,5 @@
 use mathlib.Core.Path.{ap}
 use lib.Ieee.{Float}
-use borrow.Author.Rules.{rules}
 use Rattle.loops.proofs.Choice.{and_taken}
 use Rattle.number.specs.Operators.{◌≤?◌}
 use Rattle.meeting.specs.Newton.{near_of}

@@ -1,7 +1,6 @@
 use mathlib.Core.Path.{◌≡◌, sym, ap, ◌∙◌}
 use mathlib.Core.Bool.{Bool}
 use lib.Ieee.{Float}
-use borrow.Author.Rules.{rules}
 use Rattle.number.specs.Operators.{◌⊗◌}
 use Rattle.number.specs.Helpers.{tenth}
 use Rattle.patch.specs.declared.patch.Patch.{Patch}

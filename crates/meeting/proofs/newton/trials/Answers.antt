@@ -1,11 +1,9 @@
 -- The loop's invariant: the trials left give what all of them give.
-use mathlib.Core.Path.{◌≡◌, refl, sym}
-use Prim.Native.Nat.{◌-◌, ◌≤◌}
-use borrow.Author.Rules.{rules}
+use mathlib.Core.Path.{refl, sym}
 use native.Mathlib.Omega.{arith}
 use Rattle.loops.proofs.Choice.{pick_taken, pick_left}
 use Rattle.loops.proofs.Loop.{searched_again, searched_leave, searched_done}
-use Rattle.meeting.specs.Newton.{most_trials, trials_from, trials_of}
+use Rattle.meeting.specs.Newton.{most_trials, trials_of}
 use Rattle.meeting.proofs.newton.trials.Goals as goal
 
 pub loop-init : goal.loop-init

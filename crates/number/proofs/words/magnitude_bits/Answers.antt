@@ -1,4 +1,3 @@
-use borrow.Author.Rules.{rules}
 use Rattle.number.proofs.words.magnitude_bits.Goals as goal
 
 pub returns : goal.returns

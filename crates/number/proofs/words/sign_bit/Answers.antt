@@ -1,4 +1,3 @@
-use borrow.Author.Rules.{rules}
 use Rattle.number.proofs.words.sign_bit.Goals as goal
 
 pub returns : goal.returns

@@ -1,5 +1,4 @@
 use mathlib.Core.Path.{◌≡◌}
-use borrow.Author.Rules.{rules}
 use Rattle.patch.specs.Patch.{fitness_of}
 use Rattle.patch.specs.Pair.{pair_fitness}
 use Rattle.patch.proofs.pair.pair_fitness.Goals as goal

@@ -1,5 +1,4 @@
 use mathlib.Core.Path.{refl}
-use borrow.Author.Rules.{rules}
 use Rattle.loops.proofs.Choice.{and_taken, and_left}
 use Rattle.patch.specs.Patch.{cone_fits}
 use Rattle.patch.proofs.patch.cone_fits.Goals as goal

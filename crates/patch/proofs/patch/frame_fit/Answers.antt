@@ -1,4 +1,3 @@
-use borrow.Author.Rules.{rules}
 use Rattle.loops.proofs.Choice.{and_taken, and_left}
 use Rattle.patch.specs.Patch.{frame_fit}
 use Rattle.patch.proofs.patch.frame_fit.Goals as goal

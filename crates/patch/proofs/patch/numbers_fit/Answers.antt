@@ -1,4 +1,3 @@
-use borrow.Author.Rules.{rules}
 use Rattle.patch.specs.Patch.{numbers_fit}
 use Rattle.patch.proofs.patch.numbers_fit.Goals as goal
 

@@ -1,4 +1,3 @@
-use borrow.Author.Rules.{rules}
 use Rattle.loops.proofs.Choice.{and_taken, and_left}
 use Rattle.patch.specs.Patch.{one_fits}
 use Rattle.patch.proofs.patch.one_fits.Goals as goal

@@ -1,4 +1,3 @@
-use borrow.Author.Rules.{rules}
 use Rattle.patch.specs.Patch.{sizes_fit}
 use Rattle.patch.proofs.patch.sizes_fit.Goals as goal
 

@@ -1,4 +1,3 @@
-use borrow.Author.Rules.{rules}
 use Rattle.patch.specs.Patch.{u_is_angle}
 use Rattle.patch.proofs.patch.u_is_angle.Goals as goal
 

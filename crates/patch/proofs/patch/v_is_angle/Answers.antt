@@ -1,4 +1,3 @@
-use borrow.Author.Rules.{rules}
 use Rattle.patch.specs.Patch.{v_is_angle}
 use Rattle.patch.proofs.patch.v_is_angle.Goals as goal
 

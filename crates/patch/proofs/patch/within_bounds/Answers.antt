@@ -1,4 +1,3 @@
-use borrow.Author.Rules.{rules}
 use Rattle.patch.specs.Patch.{within_bounds}
 use Rattle.patch.proofs.patch.within_bounds.Goals as goal
 

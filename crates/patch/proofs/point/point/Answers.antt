@@ -1,6 +1,5 @@
 use mathlib.Core.Path.{refl, sym, ap, ◌∙◌}
 use borrow.Author.Tests.{not-false, not-true}
-use borrow.Author.Rules.{rules}
 use Rattle.loops.proofs.Choice.{pick_taken, pick_left}
 use Rattle.patch.specs.declared.point.Located.TheVariants.{At}
 use Rattle.patch.specs.Located.{located_of}

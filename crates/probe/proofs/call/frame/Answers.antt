@@ -1,4 +1,3 @@
-use borrow.Author.Rules.{rules}
 use Rattle.probe.specs.Call.{frame_from}
 use Rattle.probe.proofs.call.frame.Goals as goal
 

@@ -1,5 +1,4 @@
 use mathlib.Core.Path.{refl}
-use borrow.Author.Rules.{rules}
 use Rattle.probe.specs.Call.{parameters_from}
 use Rattle.probe.proofs.call.parameters.Goals as goal
 

@@ -1,4 +1,3 @@
-use borrow.Author.Rules.{rules}
 use Rattle.probe.specs.Call.{patch_from}
 use Rattle.probe.proofs.call.patch_at.Goals as goal
 

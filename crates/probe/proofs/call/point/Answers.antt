@@ -1,4 +1,3 @@
-use borrow.Author.Rules.{rules}
 use Rattle.probe.specs.Call.{point_from}
 use Rattle.probe.proofs.call.point.Goals as goal
 

@@ -1,6 +1,5 @@
 use mathlib.Core.Path.{refl}
 use lib.ListN.{length-set}
-use borrow.Author.Rules.{rules}
 use native.Mathlib.Omega.{arith}
 use Rattle.probe.specs.Call.{put_three}
 use Rattle.probe.proofs.call.put.Goals as goal

@@ -1,7 +1,6 @@
 use lib.ListN.{length-set}
 use native.Mathlib.Omega.{arith}
 use mathlib.Core.Path.{refl}
-use borrow.Author.Rules.{rules}
 use Rattle.probe.specs.Call.{put_parameters}
 use Rattle.probe.proofs.call.put_parameters.Goals as goal
 

@@ -1,4 +1,3 @@
-use borrow.Author.Rules.{rules}
 use Rattle.probe.specs.Call.{call_from}
 use Rattle.probe.proofs.call.read.Goals as goal
 

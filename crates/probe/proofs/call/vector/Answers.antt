@@ -1,4 +1,3 @@
-use borrow.Author.Rules.{rules}
 use Rattle.probe.specs.Call.{vector_from}
 use Rattle.probe.proofs.call.vector.Goals as goal
 

@@ -1,5 +1,4 @@
 use mathlib.Core.Path.{refl}
-use borrow.Author.Rules.{rules}
 use Rattle.probe.specs.Call.{window_from}
 use Rattle.probe.proofs.call.window.Goals as goal
 

@@ -1,5 +1,4 @@
 use native.Mathlib.Omega.{arith}
-use borrow.Author.Rules.{rules}
 use Rattle.meeting.proofs.Rounds.{unmet_more}
 use Rattle.probe.specs.Steps.{probe_land}
 use Rattle.probe.proofs.steps.probe_land.Goals as goal

@@ -1,4 +1,3 @@
-use borrow.Author.Rules.{rules}
 use Rattle.probe.specs.Steps.{probe_meet_in_plane}
 use Rattle.probe.proofs.steps.probe_meet_in_plane.Goals as goal
 

@@ -1,4 +1,3 @@
-use borrow.Author.Rules.{rules}
 use Rattle.probe.specs.Steps.{probe_predict}
 use Rattle.probe.proofs.steps.probe_predict.Goals as goal
 

@@ -1,5 +1,4 @@
 use borrow.Author.Tests.{eq-eqb, ne_eqb, lt-ltb, le-ltb}
-use borrow.Author.Rules.{rules}
 use Rattle.probe.specs.Steps.{probe_step}
 use Rattle.probe.proofs.steps.probe_step.Goals as goal
 

@@ -1,7 +1,6 @@
 -- The number is a byte, the round at most 32 and the column at most 4, so the word has room for all three.
 use Prim.Native.Nat.{◌≤◌}
 use native.Mathlib.Omega.{arith}
-use borrow.Author.Rules.{rules}
 use Rattle.refusal.proofs.Laws.{number_small}
 use Rattle.meeting.specs.Newton.{most_rounds}
 use Rattle.meeting.proofs.Rounds.{unmet_round, unmet_column}

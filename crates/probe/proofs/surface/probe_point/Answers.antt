@@ -1,5 +1,4 @@
 use borrow.Author.Tests.{le-ltb, lt-ltb}
-use borrow.Author.Rules.{rules}
 use Rattle.probe.specs.Surface.{probe_point}
 use Rattle.probe.proofs.surface.probe_point.Goals as goal
 

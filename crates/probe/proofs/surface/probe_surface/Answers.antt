@@ -1,5 +1,4 @@
 use borrow.Author.Tests.{eq-eqb, ne_eqb, lt-ltb, le-ltb}
-use borrow.Author.Rules.{rules}
 use Rattle.probe.specs.Surface.{probe_surface}
 use Rattle.probe.proofs.surface.probe_surface.Goals as goal
 

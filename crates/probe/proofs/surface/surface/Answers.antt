@@ -1,5 +1,4 @@
 use borrow.Author.Tests.{eq-eqb, ne_eqb}
-use borrow.Author.Rules.{rules}
 use Rattle.job.specs.File.{surface_of}
 use Rattle.probe.specs.Surface.{asked_surface}
 use Rattle.probe.proofs.surface.surface.Goals as goal

@@ -1,5 +1,4 @@
 use mathlib.Core.Path.{ap}
-use borrow.Author.Rules.{rules}
 use Rattle.refusal.specs.declared.Numbers.{Numbers}
 use Rattle.refusal.proofs.Refusal.number.Goals as goal
 

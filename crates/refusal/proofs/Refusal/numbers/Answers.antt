@@ -1,5 +1,4 @@
 use mathlib.Core.Path.{sym, ap, ◌∙◌}
-use borrow.Author.Rules.{rules}
 use Rattle.refusal.specs.Refusal.{numbers_of}
 use Rattle.refusal.proofs.Refusal.numbers.Goals as goal
 

@@ -1,5 +1,4 @@
 -- The magnitude and the maximum are the definition's.
-use borrow.Author.Rules.{rules}
 use Rattle.solve.proofs.cramer.gives_up.Goals as goal
 
 pub returns : goal.returns

@@ -1,5 +1,4 @@
 -- The four magnitudes are the definition's.
-use borrow.Author.Rules.{rules}
 use Rattle.solve.proofs.cramer.scale2.Goals as goal
 
 pub returns : goal.returns

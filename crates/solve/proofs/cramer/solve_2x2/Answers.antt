@@ -1,5 +1,4 @@
 use mathlib.Core.Path.{ap, ◌∙◌}
-use borrow.Author.Rules.{rules}
 use Rattle.solve.specs.declared.cramer.Solved2.TheVariants.{Solution}
 use Rattle.solve.proofs.GivesUp.{at_determinant}
 use Rattle.solve.proofs.cramer.solve_2x2.Goals as goal

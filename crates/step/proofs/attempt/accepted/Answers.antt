@@ -1,5 +1,4 @@
 use mathlib.Core.Path.{refl}
-use borrow.Author.Rules.{rules}
 use Rattle.loops.proofs.Choice.{and_taken}
 use Rattle.step.specs.Attempt.{accepted_of}
 use Rattle.step.proofs.attempt.accepted.Goals as goal

@@ -1,5 +1,4 @@
 use mathlib.Core.Path.{◌≡◌}
-use borrow.Author.Rules.{rules}
 use Rattle.step.specs.Attempt.{predicted, attempt_of}
 use Rattle.step.proofs.attempt.attempt.Goals as goal
 

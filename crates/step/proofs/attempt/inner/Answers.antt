@@ -1,4 +1,3 @@
-use borrow.Author.Rules.{rules}
 use Rattle.step.specs.Attempt.{inner_of}
 use Rattle.step.proofs.attempt.inner.Goals as goal
 

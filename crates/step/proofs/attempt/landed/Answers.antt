@@ -1,4 +1,3 @@
-use borrow.Author.Rules.{rules}
 use Rattle.step.specs.Attempt.{landed_of}
 use Rattle.step.proofs.attempt.landed.Goals as goal
 

@@ -1,4 +1,3 @@
-use borrow.Author.Rules.{rules}
 use Rattle.step.specs.Attempt.{landing_kept}
 use Rattle.step.proofs.attempt.landing_kept.Goals as goal
 

@@ -1,4 +1,3 @@
-use borrow.Author.Rules.{rules}
 use Rattle.step.specs.Attempt.{onward_of}
 use Rattle.step.proofs.attempt.onward.Goals as goal
 

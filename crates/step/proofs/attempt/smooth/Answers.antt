@@ -1,4 +1,3 @@
-use borrow.Author.Rules.{rules}
 use Rattle.step.specs.Attempt.{smooth_of}
 use Rattle.step.proofs.attempt.smooth.Goals as goal
 

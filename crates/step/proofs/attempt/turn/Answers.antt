@@ -1,4 +1,3 @@
-use borrow.Author.Rules.{rules}
 use Rattle.step.specs.Attempt.{turn_of}
 use Rattle.step.proofs.attempt.turn.Goals as goal
 

@@ -1,4 +1,3 @@
-use borrow.Author.Rules.{rules}
 use Rattle.step.specs.Closing.{along_of}
 use Rattle.step.proofs.closing.along.Goals as goal
 

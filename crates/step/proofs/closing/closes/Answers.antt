@@ -1,4 +1,3 @@
-use borrow.Author.Rules.{rules}
 use Rattle.step.specs.Closing.{closes_of}
 use Rattle.step.proofs.closing.closes.Goals as goal
 

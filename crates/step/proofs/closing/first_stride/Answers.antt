@@ -1,4 +1,3 @@
-use borrow.Author.Rules.{rules}
 use Rattle.step.specs.Closing.{first_stride}
 use Rattle.step.proofs.closing.first_stride.Goals as goal
 

@@ -1,5 +1,4 @@
 -- A root that is not at most the length leaves it.
-use borrow.Author.Rules.{rules}
 use mathlib.Core.Path.{◌≡◌, refl, sym, subst, ◌∙◌}
 use mathlib.Core.Bool.{Bool, true, false, not, cond}
 use lib.Dec.{T}

@@ -1,7 +1,6 @@
 -- The loop's invariant: the halvings left give what all of them give.
 use mathlib.Core.Path.{◌≡◌, refl}
 use mathlib.Core.Bool.{false}
-use Prim.Native.Nat.{◌-◌, ◌≤◌}
 use lib.Ieee.{Float}
 use native.Mathlib.Omega.{arith}
 use Rattle.loops.specs.Loop.{out}
@@ -9,7 +8,7 @@ use Rattle.loops.proofs.Loop.{searched_again, searched_leave, searched_done}
 use Rattle.number.specs.Operators.{◌≤?◌}
 use Rattle.step.specs.declared.attempt.Stride.{Stride}
 use Rattle.step.specs.declared.attempt.Stride.TheVariants.{Inner, Edge, Nothing}
-use Rattle.step.specs.Shorten.{after_attempt, halvings, most_halvings, stride_of}
+use Rattle.step.specs.Shorten.{after_attempt, most_halvings, stride_of}
 use Rattle.step.proofs.shorten.shorten.Goals as goal
 
 -- a stride that leads somewhere is the answer

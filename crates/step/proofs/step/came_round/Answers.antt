@@ -1,4 +1,3 @@
-use borrow.Author.Rules.{rules}
 use borrow.Author.Tests.{le-leb, lt-leb}
 use Rattle.step.specs.Step.{came_round}
 use Rattle.step.proofs.step.came_round.Goals as goal

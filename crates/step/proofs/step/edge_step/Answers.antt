@@ -1,7 +1,6 @@
 use mathlib.Core.Path.{◌≡◌, refl}
 use mathlib.Core.Bool.{Bool}
 use lib.Ieee.{Float}
-use borrow.Author.Rules.{rules}
 use Rattle.loops.proofs.Choice.{pick_taken, pick_left}
 use Rattle.number.specs.Operators.{◌<?◌}
 use Rattle.step.specs.Step.{edge_step}

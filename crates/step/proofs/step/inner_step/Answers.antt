@@ -1,4 +1,3 @@
-use borrow.Author.Rules.{rules}
 use Rattle.step.specs.Step.{inner_step}
 use Rattle.step.proofs.step.inner_step.Goals as goal
 

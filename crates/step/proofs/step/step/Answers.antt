@@ -1,4 +1,3 @@
-use borrow.Author.Rules.{rules}
 use Rattle.step.specs.Step.{step_of}
 use Rattle.step.proofs.step.step.Goals as goal
 

@@ -1,5 +1,4 @@
 use borrow.Author.Tests.{lt-ltb, le-ltb}
-use borrow.Author.Rules.{rules}
 use Rattle.trace_file.specs.File.{claim_fits}
 use Rattle.trace_file.proofs.layout.claim_fits.Goals as goal
 

@@ -1,5 +1,4 @@
 use native.Mathlib.Omega.{arith}
-use borrow.Author.Rules.{rules}
 use Rattle.trace_file.proofs.Numbers.{product_small}
 use Rattle.trace_file.proofs.layout.following.Goals as goal
 

@@ -1,11 +1,8 @@
-use mathlib.Core.Path.{◌≡◌, refl, sym, ap, ◌∙◌}
-use Prim.Native.Nat.{◌-◌, ◌≤◌}
+use mathlib.Core.Path.{refl, sym, ap, ◌∙◌}
 use native.Mathlib.Omega.{arith}
 use lib.Ieee.Scale.{finite}
-use lib.ListN.{drop}
 use borrow.Author.Tests.{not-true, not-false}
-use borrow.Author.Rules.{rules}
-use Rattle.trace_file.specs.File.{all_finite, numbers_from}
+use Rattle.trace_file.specs.File.{numbers_from}
 use Rattle.trace_file.specs.Layout.{numbers_place}
 use Rattle.trace_file.proofs.Numbers.{finite_out, finite_on, finite_done, from_length, from_at}
 use Rattle.trace_file.proofs.read.all_finite.Goals as goal

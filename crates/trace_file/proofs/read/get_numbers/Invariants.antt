@@ -1,12 +1,9 @@
-use mathlib.Core.Path.{◌≡◌, refl, ap, ◌∙◌}
-use Prim.Native.Nat.{ℕ, ◌-◌, ◌≤◌}
-use native.Mathlib.Omega.{arith}
-use lib.ListN.{length, length-set}
-use borrow.Author.Rules.{rules}
+use mathlib.Core.Path.{◌≡◌}
+use Prim.Native.Nat.{◌-◌, ◌≤◌}
+use lib.ListN.{length}
 use Rattle.trace_file.specs.File.{numbers_from}
 use Rattle.trace_file.specs.Layout.{numbers_place}
 use Rattle.loops.specs.Over.{written}
-use Rattle.trace_file.proofs.Numbers.{get_again}
 use Rattle.trace_file.proofs.read.get_numbers.Given as goal
 
 abbrev pub invariant-loop-k : goal.invariant-loop-k

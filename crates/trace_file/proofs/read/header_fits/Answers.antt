@@ -1,5 +1,4 @@
 use borrow.Author.Tests.{eq-eqb, ne_eqb, le-leb, lt-leb}
-use borrow.Author.Rules.{rules}
 use Rattle.trace_file.specs.Layout.{numbers_place}
 use Rattle.trace_file.specs.File.{header_fits}
 use Rattle.loops.proofs.Choice.{and_taken, and_left}

@@ -1,5 +1,4 @@
 use borrow.Author.Tests.{eq-eqb, ne_eqb}
-use borrow.Author.Rules.{rules}
 use Rattle.trace_file.specs.File.{length_agrees}
 use Rattle.trace_file.proofs.read.length_agrees.Goals as goal
 

@@ -1,7 +1,6 @@
 use mathlib.Core.Path.{sym, ap, ◌∙◌}
 use native.Mathlib.Omega.{arith}
 use lib.ListN.{length}
-use borrow.Author.Rules.{rules}
 use Rattle.trace_file.specs.Read.{read_of}
 use Rattle.groups.specs.Traced.{outcome}
 use Rattle.groups.specs.declared.traced.Traced.TheVariants.{Line}

@@ -1,4 +1,3 @@
-use borrow.Author.Rules.{rules}
 use Rattle.trace_file.proofs.read.read_v1.Goals as goal
 
 pub returns : goal.returns

@@ -1,4 +1,3 @@
-use borrow.Author.Rules.{rules}
 use Rattle.trace_file.proofs.read.start_in.Goals as goal
 
 pub returns : goal.returns

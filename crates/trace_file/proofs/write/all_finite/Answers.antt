@@ -1,13 +1,10 @@
-use mathlib.Core.Path.{◌≡◌, refl, sym, ap, ◌∙◌}
-use Prim.Native.Nat.{◌-◌, ◌≤◌}
+use mathlib.Core.Path.{refl, sym, ap, ◌∙◌}
 use native.Mathlib.Omega.{arith}
 use lib.Seq.{get_or-take, length-take-le}
 use lib.Ieee.Scale.{finite}
 use lib.Ieee.{nan}
-use lib.ListN.{take, drop}
+use lib.ListN.{take}
 use borrow.Author.Tests.{not-true, not-false}
-use borrow.Author.Rules.{rules}
-use Rattle.trace_file.specs.File.{all_finite}
 use Rattle.trace_file.proofs.Numbers.{finite_out, finite_on, finite_done}
 use Rattle.trace_file.proofs.write.all_finite.Goals as goal
 

@@ -1,6 +1,5 @@
 use mathlib.Core.Path.{ap, ◌∙◌}
 use Prim.Native.Nat.{ℕ}
-use borrow.Author.Rules.{rules}
 use Rattle.wire.specs.Wire.{four_bytes}
 use Rattle.loops.specs.Over.{over}
 use Rattle.trace_file.proofs.Header.{header_put}

@@ -1,8 +1,7 @@
 use mathlib.Core.Path.{◌≡◌, refl, ap, ◌∙◌}
-use Prim.Native.Nat.{ℕ, ◌-◌, ◌≤◌}
+use Prim.Native.Nat.{ℕ}
 use native.Mathlib.Omega.{arith}
-use lib.ListN.{length, take}
-use borrow.Author.Rules.{rules}
+use lib.ListN.{take}
 use Rattle.trace_file.specs.File.{numbers_bytes}
 use Rattle.trace_file.specs.Layout.{numbers_place}
 use Rattle.loops.specs.Over.{over}

@@ -1,12 +1,9 @@
-use mathlib.Core.Path.{◌≡◌, refl, ap, ◌∙◌}
-use Prim.Native.Nat.{ℕ, ◌-◌, ◌≤◌}
-use native.Mathlib.Omega.{arith}
+use mathlib.Core.Path.{◌≡◌}
+use Prim.Native.Nat.{◌-◌, ◌≤◌}
 use lib.ListN.{length, take}
-use borrow.Author.Rules.{rules}
 use Rattle.trace_file.specs.File.{numbers_bytes}
 use Rattle.trace_file.specs.Layout.{numbers_place}
 use Rattle.loops.specs.Over.{over}
-use Rattle.trace_file.proofs.Numbers.{put_start, put_again}
 use Rattle.trace_file.proofs.write.put_numbers.Given as goal
 
 abbrev pub invariant-loop-k : goal.invariant-loop-k

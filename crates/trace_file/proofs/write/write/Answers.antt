@@ -3,7 +3,6 @@ use mathlib.Core.List.{List}
 use Prim.Native.Nat.{ℕ}
 use native.Mathlib.Omega.{arith}
 use lib.ListN.{length}
-use borrow.Author.Rules.{rules}
 use Rattle.trace_file.specs.Write.{filed, write_of}
 use Rattle.trace_file.specs.declared.write.Written.TheVariants.{Bytes}
 use Rattle.trace_file.proofs.Fitness.{claim_fits_lem, WriteFit, write_fit}

@@ -1,7 +1,6 @@
 use mathlib.Core.Path.{refl}
 use native.Mathlib.Omega.{arith}
 use borrow.Author.Tests.{not-true, not-false, le-leb, lt-leb}
-use borrow.Author.Rules.{rules}
 use Rattle.trace_file.specs.Write.{write_fitness}
 use Rattle.refusal.specs.declared.Refusal.TheVariants as refusal
 use Rattle.refusal.proofs.Order.{held_then, failed_then}

@@ -1,4 +1,3 @@
-use borrow.Author.Rules.{rules}
 use Rattle.walk.specs.Line.{first_walker}
 use Rattle.walk.proofs.half.first_walker.Goals as goal
 

@@ -1,7 +1,6 @@
 -- The invariant is `Going`: the buffer holds the points so far, in the order walked.
 use Prim.Native.Nat.{◌-◌}
-use borrow.Author.Rules.{rules}
-use Rattle.walk.proofs.Halves.{Going, begun_is, going_start, few_held, fits, few_left, going_on, held, going_ended, going_edge, going_closed, going_spent}
+use Rattle.walk.proofs.Halves.{Going}
 use Rattle.walk.proofs.half.half.Given as goal
 
 abbrev pub invariant-loop : goal.invariant-loop

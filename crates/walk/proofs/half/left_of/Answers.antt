@@ -1,4 +1,3 @@
-use borrow.Author.Rules.{rules}
 use Rattle.walk.proofs.half.left_of.Goals as goal
 
 pub returns-then-removed : goal.returns-then-removed

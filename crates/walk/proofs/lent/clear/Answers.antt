@@ -1,10 +1,7 @@
-use mathlib.Core.Path.{◌≡◌}
-use Prim.Native.Nat.{◌-◌, ◌≤◌}
 use native.Mathlib.Omega.{arith}
-use borrow.Author.Rules.{rules}
-use lib.ListN.{length, length-set}
+use lib.ListN.{length-set}
 use Rattle.number.specs.Helpers.{positive_zero}
-use Rattle.walk.proofs.Lists.{filled, filled_start, filled_again, filled_done}
+use Rattle.walk.proofs.Lists.{filled_start, filled_again, filled_done}
 use Rattle.walk.proofs.lent.clear.Goals as goal
 
 pub loop-i-init : goal.loop-i-init

@@ -1,6 +1,5 @@
 use mathlib.Core.Path.{refl}
 use native.Mathlib.Omega.{arith}
-use borrow.Author.Rules.{rules}
 use Rattle.loops.proofs.Over.{over_next}
 use Rattle.walk.specs.Lent.{coordinate_numbers, parameter_numbers}
 use Rattle.walk.proofs.lent.put.Goals as goal

@@ -1,12 +1,11 @@
 -- i points at each end are exchanged, those between are as they were
 use mathlib.Core.Path.{◌≡◌, refl, ◌∙◌}
-use Prim.Native.Nat.{◌-◌, ◌≤◌, ◌<◌, ◌*◌, ◌/◌}
+use Prim.Native.Nat.{◌-◌, ◌<◌, ◌*◌, ◌/◌}
 use native.Mathlib.Omega.{arith}
-use borrow.Author.Rules.{rules}
 use lib.ListN.{length}
 use Rattle.groups.specs.Groups.{width}
 use Rattle.groups.proofs.Rows.{row_there}
-use Rattle.walk.proofs.Reversal.{Reversing, reversing_start, reversing_again, reversing_done}
+use Rattle.walk.proofs.Reversal.{reversing_start, reversing_again, reversing_done}
 use Rattle.walk.proofs.lent.reverse.Goals as goal
 
 pub loop-i-init : goal.loop-i-init

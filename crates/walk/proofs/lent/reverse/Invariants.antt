@@ -1,12 +1,7 @@
 -- i points at each end are exchanged, those between are as they were
-use mathlib.Core.Path.{◌≡◌, refl, ◌∙◌}
-use Prim.Native.Nat.{◌-◌, ◌≤◌, ◌<◌, ◌*◌, ◌/◌}
-use native.Mathlib.Omega.{arith}
-use borrow.Author.Rules.{rules}
-use lib.ListN.{length}
-use Rattle.groups.specs.Groups.{width}
-use Rattle.groups.proofs.Rows.{row_there}
-use Rattle.walk.proofs.Reversal.{Reversing, reversing_start, reversing_again, reversing_done}
+use mathlib.Core.Path.{◌≡◌}
+use Prim.Native.Nat.{◌-◌, ◌≤◌, ◌/◌}
+use Rattle.walk.proofs.Reversal.{Reversing}
 use Rattle.walk.proofs.lent.reverse.Given as goal
 
 abbrev pub invariant-loop-i : goal.invariant-loop-i

@@ -1,6 +1,5 @@
 use mathlib.Core.Path.{sym}
 use native.Mathlib.Omega.{arith}
-use borrow.Author.Rules.{rules}
 use Rattle.walk.proofs.Joining.{joined, joined_first}
 use Rattle.walk.proofs.line.join.Goals as goal
 

@@ -1,7 +1,7 @@
 -- The start, the forward half behind it, the backward half behind that, then joined.
 use mathlib.Core.Path.{sym, ap, ◌∙◌}
 use mathlib.Core.Bool.{Bool}
-use Prim.Native.Nat.{◌+◌, ◌*◌, ◌≤◌}
+use Prim.Native.Nat.{◌+◌, ◌*◌}
 use native.Mathlib.Omega.{arith}
 use borrow.Author.Rules.{rules}
 use mathlib.Core.List.{List}
@@ -11,7 +11,7 @@ use Rattle.groups.specs.Groups.{width}
 use Rattle.geometry.specs.declared.point.Point3D.{Point3D}
 use Rattle.walk.specs.Lent.{row_for, own_row}
 use Rattle.walk.specs.Line.{Half, half_of, forward, backward}
-use Rattle.walk.specs.Trace.{most_steps, settled}
+use Rattle.walk.specs.Trace.{settled}
 use Rattle.walk.proofs.Lists.{back_from}
 use Rattle.walk.proofs.Lines.{Started, Forward, Both, started, needs_forward, forward_half, needs_backward, backward_half, settled_forward, settled_both, closed_forward_lem, both_halves_lem}
 use Rattle.walk.proofs.line.line.Goals as goal

@@ -1,4 +1,3 @@
-use borrow.Author.Rules.{rules}
 use Rattle.walk.specs.Trace.{guess_finite}
 use Rattle.walk.proofs.trace.guess_finite.Goals as goal
 

@@ -1,4 +1,3 @@
-use borrow.Author.Rules.{rules}
 use Rattle.walk.proofs.trace.unwalked.Goals as goal
 
 pub returns-in-At : goal.returns-in-At

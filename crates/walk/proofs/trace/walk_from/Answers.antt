@@ -2,7 +2,6 @@
 use mathlib.Core.Path.{◌≡◌, refl, sym, ap, ◌∙◌}
 use mathlib.Core.List.{List, ◌++◌}
 use Prim.Native.Nat.{ℕ, ◌-◌}
-use borrow.Author.Rules.{rules}
 use lib.Ieee.{Float}
 use lib.ListN.{length, take, replicate}
 use Rattle.number.specs.Helpers.{positive_zero}

@@ -1,4 +1,3 @@
-use borrow.Author.Rules.{rules}
 use Rattle.analytic.specs.Surface.{eval_d1}
 use Rattle.analytic.proofs.surface.Surface.eval_d1.Goals as goal
 

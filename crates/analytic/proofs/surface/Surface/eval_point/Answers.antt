@@ -1,4 +1,3 @@
-use borrow.Author.Rules.{rules}
 use Rattle.analytic.proofs.surface.Surface.eval_point.Goals as goal
 
 pub returns-in-Plane : goal.returns-in-Plane

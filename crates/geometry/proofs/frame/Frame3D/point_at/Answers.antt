@@ -1,4 +1,3 @@
-use borrow.Author.Rules.{rules}
 use Rattle.geometry.specs.Frame.{point_at_of}
 use Rattle.geometry.proofs.frame.Frame3D.point_at.Goals as goal
 

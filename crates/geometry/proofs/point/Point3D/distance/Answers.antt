@@ -1,4 +1,3 @@
-use borrow.Author.Rules.{rules}
 use Rattle.geometry.specs.Point.{distance_of}
 use Rattle.geometry.proofs.point.Point3D.distance.Goals as goal
 

@@ -1,4 +1,3 @@
-use borrow.Author.Rules.{rules}
 use Rattle.loops.proofs.Choice.{and_taken, and_left}
 use Rattle.geometry.specs.Point.{point_fit}
 use Rattle.geometry.proofs.point.Point3D.is_fit.Goals as goal

@@ -1,4 +1,3 @@
-use borrow.Author.Rules.{rules}
 use Rattle.geometry.specs.Point.{distance_of, difference_of}
 use Rattle.geometry.specs.Vector.{magnitude_of, square_magnitude_of}
 use Rattle.geometry.proofs.point.Point3D.within.Goals as goal

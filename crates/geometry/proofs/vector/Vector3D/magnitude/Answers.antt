@@ -1,4 +1,3 @@
-use borrow.Author.Rules.{rules}
 use Rattle.geometry.specs.Vector.{magnitude_of}
 use Rattle.geometry.proofs.vector.Vector3D.magnitude.Goals as goal
 

@@ -1,5 +1,4 @@
 use mathlib.Core.Path.{refl}
-use borrow.Author.Rules.{rules}
 use Rattle.loops.proofs.Choice.{pick_taken, pick_left}
 use Rattle.patch.specs.Patch.{bounded_of}
 use Rattle.patch.proofs.patch.Window.bounded.Goals as goal
