@@ -3,7 +3,7 @@
 # (wrapper/examples/guard.rs). Figures: docs/TRUST.md.
 set -eu
 cd "$(dirname "$0")/.."
-rt staticlib capi > target/staticlib.log 2>&1 || { tail -n 20 target/staticlib.log; exit 1; }
+tools/staticlib.sh capi
 cc -O2 -Wall -Wextra -Iinclude bench/mode.c target/staticlib/libcapi.a -o target/mode
 grep -m1 'model name' /proc/cpuinfo | sed 's/.*: //'
 target/mode

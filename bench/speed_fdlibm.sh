@@ -4,7 +4,7 @@ set -euo pipefail
 cd "$(dirname "$0")/.."
 out=target/speed_fdlibm
 mkdir -p "$out"
-rt staticlib capi > "$out/log" 2>&1 || { cat "$out/log"; exit 1; }
+tools/staticlib.sh capi
 # No fused multiply-add: each operation rounds once, as the algorithms ask.
 flags='-O3 -ffp-contract=off'
 cc $flags -c -o "$out/fdlibm.o" bench/fdlibm.c

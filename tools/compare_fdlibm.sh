@@ -7,7 +7,7 @@ seed=${1:-1}
 count=${2:-10000000}
 out=target/compare_fdlibm
 mkdir -p "$out"
-rt staticlib capi > "$out/log" 2>&1 || { cat "$out/log"; exit 1; }
+tools/staticlib.sh capi
 cc -O2 -o "$out/compare" tools/compare_fdlibm.c target/staticlib/libcapi.a
 javac -d "$out" tools/StrictMathAnswers.java
 printf '%-8s %12s %12s %12s\n' function compared 'beyond reach' differ

@@ -3,6 +3,6 @@
 # (tools/compare_file.py): COUNT random calls of each, and every fixed case. Fails where one differs.
 set -eu
 cd "$(dirname "$0")/.."
-rt staticlib capi > target/staticlib.log 2>&1 || { tail -n 20 target/staticlib.log; exit 1; }
+tools/staticlib.sh capi
 "${CC:-cc}" -shared -Wl,-z,defs -Wl,--whole-archive target/staticlib/libcapi.a -Wl,--no-whole-archive -o target/libgeomcore.so
 exec python3 -B tools/compare_file.py target/libgeomcore.so "${1:-1}" "${2:-1000000}"

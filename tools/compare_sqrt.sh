@@ -2,6 +2,6 @@
 # compare_sqrt.sh [SEED [COUNT]]: compares our square root with the hardware's at COUNT arguments of each of three kinds; fails where one differs.
 set -eu
 cd "$(dirname "$0")/.."
-rt staticlib capi > target/staticlib.log 2>&1 || { tail -n 20 target/staticlib.log; exit 1; }
+tools/staticlib.sh capi
 "${CC:-cc}" -O2 -o target/compare_sqrt tools/compare_sqrt.c target/staticlib/libcapi.a
 exec target/compare_sqrt "${1:-1}" "${2:-10000000}"

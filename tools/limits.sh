@@ -8,7 +8,7 @@ cd "$(dirname "$0")/.."
 archive=target/staticlib/libcapi.a
 tools/build_oracle.sh
 cp "$archive" target/once.a
-rt staticlib capi > target/staticlib.log 2>&1 || { tail -n 20 target/staticlib.log; exit 1; }
+tools/staticlib.sh capi
 cmp target/once.a "$archive" && echo "built twice: the same bytes, sha256 $(sha256sum < "$archive" | cut -c1-16)"
 python3 tools/archive.py
 cc -O2 -Wall -Wextra -Iinclude -pie -fPIE -Wl,-z,now,-z,text tools/limits.c "$archive" -o target/limits

@@ -4,7 +4,7 @@
 use std::arch::asm;
 
 #[cfg(not(target_arch = "x86_64"))]
-compile_error!("the archive that `rt staticlib capi` writes is for x86-64");
+compile_error!("the archive that `tools/staticlib.sh capi` writes is for x86-64");
 
 /// MXCSR as a program starts, and the bits that count: all but the flags that operations leave.
 const FIT: u32 = 0x1f80;

@@ -1,6 +1,6 @@
-//! The C interface: each function is thin over one of the library below, and its contract is that function's.
+//! The calls over bytes and numbers alone: each function is thin over one of the library below, and its contract is that function's.
 //!
-//! `tools/staticlib.sh capi` writes the archive. A slice passes as a pointer and a length.
+//! The static library `capi_c` exports them to C.
 #![tactic(auto)]
 
 ghost use Rattle.std.specs.Prelude.{◌≡◌, ◌+◌, ◌*◌, ◌≤◌, ◌<◌, length};
@@ -25,32 +25,28 @@ use refusal::{Refusal, Verdict};
 use trace_file::Written;
 
 // The square root, correctly rounded.
-#[unsafe(no_mangle)]
-pub extern "C" fn geomcore_sqrt(x: f64) -> f64
+pub fn geomcore_sqrt(x: f64) -> f64
     ensures { SqrtGives x result }
 {
     sqrt::sqrt(x)
 }
 
 // The sine of an angle; a NaN beyond reach.
-#[unsafe(no_mangle)]
-pub extern "C" fn geomcore_sin(x: f64) -> f64
+pub fn geomcore_sin(x: f64) -> f64
     ensures { result ≡ sin_of x }
 {
     fdlibm::sin(x)
 }
 
 // The cosine of an angle; a NaN beyond reach.
-#[unsafe(no_mangle)]
-pub extern "C" fn geomcore_cos(x: f64) -> f64
+pub fn geomcore_cos(x: f64) -> f64
     ensures { result ≡ cos_of x }
 {
     fdlibm::cos(x)
 }
 
 // The angle of the point (x, y).
-#[unsafe(no_mangle)]
-pub extern "C" fn geomcore_atan2(y: f64, x: f64) -> f64
+pub fn geomcore_atan2(y: f64, x: f64) -> f64
     ensures { result ≡ atan2_of y x }
 {
     arctangent::atan2(y, x)
@@ -85,8 +81,7 @@ fn point_on(patch: Patch, u: f64, v: f64, out: &mut [f64]) -> u64
 
 // Puts the point at (u, v) of the surface, given by its 146 bytes of the job file, into the first three numbers of `out`; 0, or the
 // refusal's number, and then nothing is written. 19 is tested first, then 8: fewer than three numbers lent.
-#[unsafe(no_mangle)]
-pub extern "C" fn geomcore_point(surface: &[u8], u: f64, v: f64, out: &mut [f64]) -> u64
+pub fn geomcore_point(surface: &[u8], u: f64, v: f64, out: &mut [f64]) -> u64
     ensures { answered result out.new ≡ point_answer surface.now u v out.old }
 {
     let read = job::file::read_surface(surface);
@@ -126,8 +121,7 @@ fn traced_word(answer: Traced) -> u64
 // Walks the line that a job file asks for over the lent numbers, which may be any. A low byte of 0 means that the line in the buffer passes
 // the check, with the count, start and code of the word; beside 9 and 21 the byte above it is the Newton round in which the meeting gave up,
 // beside 21 the two bytes above that the column at which the solve did.
-#[unsafe(no_mangle)]
-pub extern "C" fn geomcore_trace(job: &[u8], buffer: &mut [f64]) -> u64
+pub fn geomcore_trace(job: &[u8], buffer: &mut [f64]) -> u64
     ensures { TraceWord job.now buffer.old buffer.new result }
 {
     let read = job::file::read(job);
@@ -168,8 +162,7 @@ fn checked_word(answer: Verdict) -> u64
 
 // Checks a claimed trace against the surfaces and tolerance of a job file; its guess and cap aren't read. The word is 0 exactly when the
 // bytes are a job and the trace passes.
-#[unsafe(no_mangle)]
-pub extern "C" fn geomcore_check(
+pub fn geomcore_check(
     job: &[u8],
     buffer: &[f64],
     count: u64,
@@ -213,8 +206,7 @@ fn corner(corners: &[f64], at: usize) -> Point3D
 }
 
 // Whether a trace of `count` points crosses the box whose corners are given, low x, y, z, then high. Fewer than six corners answer 8.
-#[unsafe(no_mangle)]
-pub extern "C" fn geomcore_crossing(
+pub fn geomcore_crossing(
     confusion: f64,
     angular: f64,
     buffer: &[f64],
@@ -250,8 +242,7 @@ fn written_word(answer: Written) -> u64
 }
 
 // Writes the first `count` points of the buffer, seven numbers each, to the front of the lent bytes as a trace file of version 1.
-#[unsafe(no_mangle)]
-pub extern "C" fn geomcore_write_v1(
+pub fn geomcore_write_v1(
     buffer: &[f64],
     count: u64,
     start: u64,
@@ -270,8 +261,7 @@ pub extern "C" fn geomcore_write_v1(
 }
 
 // Reads a trace file of version 1 into the front of the buffer. The word is the trace's: count, start and code, or the refusal's number.
-#[unsafe(no_mangle)]
-pub extern "C" fn geomcore_read_v1(file: &[u8], buffer: &mut [f64]) -> u64
+pub fn geomcore_read_v1(file: &[u8], buffer: &mut [f64]) -> u64
     ensures { ReadWord file.now buffer.old buffer.new result }
 {
     traced_word(geomcore::call::read_v1(file, buffer))

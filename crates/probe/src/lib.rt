@@ -1,4 +1,4 @@
-//! Functions that only comparisons with outside programs call, exported to C. A slice passes as a pointer and a length.
+//! Functions that only comparisons with outside programs call, which the static library `probe_c` exports to C.
 //!
 //! The solvers: the input holds the matrix row by row, the right side and tol; a solution goes to the front of the output.
 //! The answer: 1 solved, 9 a slice too short, else the solver gave up: 2^8 times the column, 0 of two unknowns. Where it is not 1 the
@@ -112,8 +112,7 @@ fn probe_4x4(input: &[f64], output: &mut [f64]) -> u64
 }
 
 // The solver of so many unknowns: 2, 3 or 4. Any other number is answered like a slice too short.
-#[unsafe(no_mangle)]
-pub extern "C" fn probe_solve(size: u64, input: &[f64], output: &mut [f64]) -> u64
+pub fn probe_solve(size: u64, input: &[f64], output: &mut [f64]) -> u64
     ensures { probed result output.new ≡ probe_of size input.now output.old }
 {
     if size == 2 {

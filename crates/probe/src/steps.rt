@@ -1,4 +1,4 @@
-//! The steps of the walk for comparisons with outside programs, exported to C. A slice passes as a pointer and a length.
+//! The steps of the walk for comparisons with outside programs.
 //!
 //! The input is that of the module `call`. An answer's numbers go to the front of the output, which holds 4 or more. A slice too short is
 //! answered 9. Where no number is answered the output is as it was.
@@ -106,8 +106,7 @@ fn probe_land(c: Call, input: &[f64], pin: u64, output: &mut [f64]) -> u64
 }
 
 // The step of this number; `pin` is for `land` alone. Any other number is answered like a slice too short.
-#[unsafe(no_mangle)]
-pub extern "C" fn probe_step(what: u64, pin: u64, input: &[f64], output: &mut [f64]) -> u64
+pub fn probe_step(what: u64, pin: u64, input: &[f64], output: &mut [f64]) -> u64
     ensures { probed result output.new ≡ probe_step what pin input.now output.old }
 {
     if input.len() < 54 {

@@ -1,4 +1,4 @@
-//! Points and derivatives of surfaces for comparisons with outside programs, exported to C. A slice passes as a pointer and a length.
+//! Points and derivatives of surfaces for comparisons with outside programs.
 //!
 //! The numbers: origin, x, y and z direction, two sizes (used ones first). Kinds are the job file's.
 ghost use Rattle.std.specs.Prelude.{◌≡◌, ◌≤◌, length};
@@ -59,8 +59,7 @@ fn probe_derivatives(s: Surface, u: f64, v: f64, output: &mut [f64]) -> u64
 
 // What is asked: 0 the point, 1 both first derivatives. Anything else, a kind above 4 and a slice too short are answered 0, and the output
 // is as it was.
-#[unsafe(no_mangle)]
-pub extern "C" fn probe_surface(
+pub fn probe_surface(
     what: u64,
     kind: u64,
     numbers: &[f64],
