@@ -162,13 +162,7 @@ fn checked_word(answer: Verdict) -> u64
 
 // Checks a claimed trace against the surfaces and tolerance of a job file; its guess and cap aren't read. The word is 0 exactly when the
 // bytes are a job and the trace passes.
-pub fn geomcore_check(
-    job: &[u8],
-    buffer: &[f64],
-    count: u64,
-    start: u64,
-    code: u64,
-) -> u64
+pub fn geomcore_check(job: &[u8], buffer: &[f64], count: u64, start: u64, code: u64) -> u64
     ensures { CheckWord job.now buffer.now count start code result }
 {
     let read = job::file::read(job);
@@ -242,13 +236,7 @@ fn written_word(answer: Written) -> u64
 }
 
 // Writes the first `count` points of the buffer, seven numbers each, to the front of the lent bytes as a trace file of version 1.
-pub fn geomcore_write_v1(
-    buffer: &[f64],
-    count: u64,
-    start: u64,
-    code: u64,
-    file: &mut [u8],
-) -> u64
+pub fn geomcore_write_v1(buffer: &[f64], count: u64, start: u64, code: u64, file: &mut [u8]) -> u64
     ensures { WriteWord buffer.now count start code file.old file.new result }
 {
     written_word(geomcore::call::write_v1(
