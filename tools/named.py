@@ -21,7 +21,7 @@ DOCUMENTS = ['README.md', 'NOTICE', *sorted(glob.glob('docs/*.md')), *sorted(glo
 PATH = re.compile(r'(?<![\w/.-])((?:[\w.-]+/)+[\w.-]*\w)')
 WORD = re.compile(r"[A-Za-z_][\w'′]*(?:-[\w→]+)*\??")
 # Words of the Rust, of fdlibm's C, of a usage line, of a foreign command or of a verdict that need not be in the tree.
-FOREIGN = set('marching_intersection __kernel_rem_pio2 aabb march valgrind tool callgrind axioms libraries-built'.split())
+FOREIGN = set('marching_intersection __kernel_rem_pio2 __xpg_strerror_r rattle_errno aabb march valgrind tool callgrind axioms libraries-built libc cpu'.split())
 
 
 def tree_words():
@@ -29,7 +29,7 @@ def tree_words():
     words = set()
     for top in ('crates', 'oracle', 'tools', 'include', 'wrapper', 'bench', 'examples-c', '.ci'):
         for path in glob.glob(f'{top}/**/*', recursive=True):
-            if os.path.isfile(path) and '/target/' not in path and not re.search(r'/(stdin|stdout)$', path):
+            if os.path.isfile(path) and '/target/' not in path and '/out/' not in path and not re.search(r'/(stdin|stdout)$', path):
                 with open(path, encoding='utf-8', errors='replace') as file:
                     text = file.read()
                 words |= set(WORD.findall(text)) | set(re.findall(r'\w+', text))
