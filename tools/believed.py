@@ -17,16 +17,11 @@ PUBLIC = ["geomcore", "capi", "answer"]
 MARKS = "<!-- tools/believed.py --page writes from here -->", "<!-- to here -->"
 USED_FOR = {
     "Prim.Native.Nat": "whole numbers from 0, computed by the prover's own machine code",
-    "lib.Bits": "bitwise and, or: the fields of a number's bits",
-    "lib.Dec": "comparisons of whole numbers that give a truth value, and that a truth value is true",
-    "lib.Ieee": "binary64: its values, its operations with their rounding, its comparisons, its bits",
-    "lib.Ieee.Scale": "whether a number is finite",
-    "lib.IntN": "whole numbers with a sign: exponents, differences of coordinates",
-    "lib.ListN": "lists by index: length, an element or a default, a changed element, the front, the rest, repetition",
-    "mathlib.Core.Bool": "truth values",
-    "mathlib.Core.List": "lists",
-    "mathlib.Core.Logic": "and, or, not, exists",
-    "mathlib.Core.Path": "equality",
+    "Rattle.std.specs.Float": "binary64 as a format, the value that is no number",
+    "Rattle.std.specs.Float.Ieee": "binary64: its operations with their rounding, its comparisons, its bits",
+    "Rattle.std.specs.Float.Ieee.Scale": "whether a number is finite",
+    "Rattle.std.specs.Int.Bits": "bitwise and, or: the fields of a number's bits",
+    "Rattle.std.specs.Prelude": "equality, and, or, truth values; whole numbers and comparisons of them, numbers with a sign; binary64's values; lists, by index too",
 }
 USE = re.compile(r"^(?:ghost |pub )?use ([^\s{;]+?)\.?(?:\{([^}]*)\})?(?: as (\S+))?;?\s*(?:--.*)?$", re.M)
 
@@ -41,13 +36,13 @@ def imports(path):
 
 def place(module):
     """The file of a module of ours, or the type of the code that it declares: ('file', path), ('type', name); None for the kit's."""
-    ours = re.fullmatch(r"Rattle·(\w+?)(?:·(?:specs|proofs))?\.(specs|proofs)\.(.+)", module)
-    if not ours:
+    ours = re.fullmatch(r"Rattle\.(\w+)\.(specs|proofs)\.(.+)", module)
+    if not ours or not Path("crates", ours[1]).is_dir():
         return None
     crate, part, path = ours.groups()
     if path.startswith("declared."):
         words = path.split(".")[1:]
-        return "type", "::".join([crate] + words[:words.index("the-variants")] if "the-variants" in words else [crate] + words)
+        return "type", "::".join([crate] + (words[:words.index("TheVariants")] if "TheVariants" in words else words))
     file = Path(f"crates/{crate}/{part}/{path.replace('.', '/')}.antt")
     if not file.is_file():
         sys.exit(f"believed.py: {module} has no file {file}")
@@ -61,7 +56,7 @@ def reached(named):
     while todo:
         path = todo.pop()
         for module, names in imports(path):
-            if not re.match(r"Rattle·|lib\.|mathlib\.|Prim\.", module):
+            if not re.match(r"Rattle\.|lib\.|mathlib\.|Prim\.", module):
                 continue  # an import of the code, not of the contract
             found = place(module)
             if found is None:
@@ -87,7 +82,7 @@ def head(path):
 
 def crates_in_order():
     text = Path("crates.txt").read_text(encoding="utf-8")
-    return [line.split(":")[0] for line in text.splitlines() if ":" in line and not line.startswith("#")]
+    return [line.split(":")[0].split()[0] for line in text.splitlines() if ":" in line and not line.startswith("#")]
 
 
 def tables(files, types, kit):

@@ -28,8 +28,9 @@ def tree_words():
     """Every word of the files that are no documents."""
     words = set()
     for top in ('crates', 'oracle', 'tools', 'include', 'wrapper', 'bench', 'examples-c', '.ci'):
-        for path in glob.glob(f'{top}/**/*', recursive=True):
-            if os.path.isfile(path) and '/target/' not in path and not re.search(r'/(stdin|stdout)$', path):
+        for folder, folders, files in os.walk(top):
+            folders[:] = [name for name in folders if name not in ('out', 'target')]
+            for path in [f'{folder}/{name}' for name in files if name not in ('stdin', 'stdout')]:
                 with open(path, encoding='utf-8', errors='replace') as file:
                     text = file.read()
                 words |= set(WORD.findall(text)) | set(re.findall(r'\w+', text))

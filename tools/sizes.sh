@@ -5,7 +5,7 @@ cd "$(dirname "$0")/.."
 export LC_ALL=C.UTF-8
 lines() { git ls-files "$@" | xargs cat | wc -l; }
 proofs() { git ls-files 'crates/*.antt' | grep /proofs/ | xargs cat; }
-echo "crates                     $(grep -cE '^[a-z_0-9]+:' crates.txt)"
+echo "crates                     $(grep -cE '^[a-z_0-9]+( staticlib)?:' crates.txt)"
 echo "lines of code              $(lines 'crates/*.rt')"
 echo "lines of definitions       $(lines 'crates/*/specs/*.antt')"
 echo "lines of proofs            $(proofs | wc -l)"

@@ -1,9 +1,8 @@
 #!/usr/bin/env bash
-# trace.sh TEXT: build the job program if need be (proved first), and answer the job that a readable text describes (tools/job.py).
+# trace.sh TEXT: proves and builds the job program, and answers the job that a readable text describes (tools/job.py).
 set -eu
 root="$(cd "$(dirname "$0")/.." && pwd)"
 job="$(mktemp)"
 trap 'rm -f "$job"' EXIT
 python3 "$root/tools/job.py" "$1" "$job"
-(cd "$root" && rt check tracer) >&2
-"$root/target/bin/tracer" < "$job"
+(cd "$root/crates/tracer" && rt run < "$job")
