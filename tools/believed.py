@@ -1,7 +1,7 @@
 #!/usr/bin/env python3
 """believed.py [--heads|--page] [FILE..]: what a reader of the contracts must believe, found in the tree.
 
-It starts from what the contracts of the public calls import (`ghost use` in the sources of geomcore, capi, capi_c and answer), or from the files of
+It starts from what the contracts of the public calls import (`ghost use` in the sources of geomcore, capi and answer), or from the files of
 definitions named, and follows the `use` lines of every definition reached. It prints, as tables: the project's files of definitions with
 their lines (all lines of the file, blank ones and imports among them); the structs and enums of the code that they speak of; the kit's
 modules that they use, with the names used. Files under specs/ that are not reached are named last. --heads prints the first sentence of each
@@ -13,15 +13,15 @@ import sys
 from collections import defaultdict
 from pathlib import Path
 
-PUBLIC = ["geomcore", "capi", "capi_c", "answer"]
+PUBLIC = ["geomcore", "capi", "answer"]
 MARKS = "<!-- tools/believed.py --page writes from here -->", "<!-- to here -->"
 USED_FOR = {
     "Prim.Native.Nat": "whole numbers from 0, computed by the prover's own machine code",
-    "Rattle.std.specs.Float": "binary64: its format, and the kinds of its values",
+    "Rattle.std.specs.Float": "binary64 as a format, the value that is no number",
     "Rattle.std.specs.Float.Ieee": "binary64: its operations with their rounding, its comparisons, its bits",
     "Rattle.std.specs.Float.Ieee.Scale": "whether a number is finite",
     "Rattle.std.specs.Int.Bits": "bitwise and, or: the fields of a number's bits",
-    "Rattle.std.specs.Prelude": "equality, truth values, whole numbers and those with a sign, their operations and comparisons; lists by index: length, an element or a default, a changed element, the front, the rest, repetition",
+    "Rattle.std.specs.Prelude": "equality, and, or, truth values; whole numbers and comparisons of them, numbers with a sign; binary64's values; lists, by index too",
 }
 USE = re.compile(r"^(?:ghost |pub )?use ([^\s{;]+?)\.?(?:\{([^}]*)\})?(?: as (\S+))?;?\s*(?:--.*)?$", re.M)
 
@@ -37,12 +37,12 @@ def imports(path):
 def place(module):
     """The file of a module of ours, or the type of the code that it declares: ('file', path), ('type', name); None for the kit's."""
     ours = re.fullmatch(r"Rattle\.(\w+)\.(specs|proofs)\.(.+)", module)
-    if not ours or not Path(f"crates/{ours.group(1)}").is_dir():
+    if not ours or not Path("crates", ours[1]).is_dir():
         return None
     crate, part, path = ours.groups()
     if path.startswith("declared."):
         words = path.split(".")[1:]
-        return "type", "::".join([crate] + words[:words.index("TheVariants")] if "TheVariants" in words else [crate] + words)
+        return "type", "::".join([crate] + (words[:words.index("TheVariants")] if "TheVariants" in words else words))
     file = Path(f"crates/{crate}/{part}/{path.replace('.', '/')}.antt")
     if not file.is_file():
         sys.exit(f"believed.py: {module} has no file {file}")

@@ -21,15 +21,16 @@ DOCUMENTS = ['README.md', 'NOTICE', *sorted(glob.glob('docs/*.md')), *sorted(glo
 PATH = re.compile(r'(?<![\w/.-])((?:[\w.-]+/)+[\w.-]*\w)')
 WORD = re.compile(r"[A-Za-z_][\w'′]*(?:-[\w→]+)*\??")
 # Words of the Rust, of fdlibm's C, of a usage line, of a foreign command or of a verdict that need not be in the tree.
-FOREIGN = set('marching_intersection __kernel_rem_pio2 __xpg_strerror_r rattle_errno aabb march valgrind tool callgrind axioms libraries-built libc cpu'.split())
+FOREIGN = set('marching_intersection __kernel_rem_pio2 aabb march valgrind tool callgrind axioms libraries-built'.split())
 
 
 def tree_words():
     """Every word of the files that are no documents."""
     words = set()
     for top in ('crates', 'oracle', 'tools', 'include', 'wrapper', 'bench', 'examples-c', '.ci'):
-        for path in glob.glob(f'{top}/**/*', recursive=True):
-            if os.path.isfile(path) and '/target/' not in path and '/out/' not in path and not re.search(r'/(stdin|stdout)$', path):
+        for folder, folders, files in os.walk(top):
+            folders[:] = [name for name in folders if name not in ('out', 'target')]
+            for path in [f'{folder}/{name}' for name in files if name not in ('stdin', 'stdout')]:
                 with open(path, encoding='utf-8', errors='replace') as file:
                     text = file.read()
                 words |= set(WORD.findall(text)) | set(re.findall(r'\w+', text))

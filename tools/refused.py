@@ -17,10 +17,11 @@ missing (the code has another shape). No edit changes a proof: a wrong answer st
 below, and not only by a limit of the prover or by a proof that names what the edit took away; and where an edit changes code alone, the error
 stands in a proof that it names. (Where a definition changes, the laws about it are refused before any function's proof.)
 
-With --try the prover's whole words are asked, as of each wrong answer: it is refused in its own proof, among the others of its edit, or alone
-where theirs hide it; and every public function with an `ensures` has two strong refusals at least, in it or in what carries its contract:
-functions of its crate that it calls. That takes a check for each edit, and one for each wrong answer that has to be tried alone; what was said
-is left in target/must-fail/CRATE/.
+With --try the prover's whole words are asked, and of each wrong answer: it is refused in its own proof, among the others of its edit, or alone
+where theirs hide it; and every public function with an `ensures` has two refusals at least, in it or in what carries its contract: functions of
+its crate that it calls. Which of them have fewer than two strong ones is said and fails nothing: a proof that the search finds has no words of
+its own, and a goal that it does not close shows nothing unequal. That takes a check for each edit, and one for each wrong answer that has to be
+tried alone; what was said is left in target/must-fail/CRATE/.
 """
 import collections
 import glob
@@ -233,7 +234,7 @@ def checked(copy, crate, changes, log):
     return said
 
 
-def tried(copy, crate, missing, counted, strong):
+def tried(copy, crate, missing, counted, refusals, strong):
     """Tries the edits of a crate, and counts its refusals."""
     for edit in sorted(glob.glob(f'crates/{crate}/must-fail/*.edit')):
         label, answers = os.path.basename(edit)[:-len('.edit')], read(edit)
@@ -245,22 +246,22 @@ def tried(copy, crate, missing, counted, strong):
         for name, proof, changes in answers:
             function, said = '::'.join([crate] + proof.split('/')), log
             found = refusal(said, crate, proof)
-            if len(answers) > 1 and (not found or found[0] not in STRONG):
-                alone = checked(copy, crate, changes, f'target/must-fail/{crate}/{label}.{name}.log')
-                again = alone and refusal(alone, crate, proof)
-                if again and (not found or again[0] in STRONG):
-                    found, said = again, alone
+            if len(answers) > 1 and not found:
+                said = checked(copy, crate, changes, f'target/must-fail/{crate}/{label}.{name}.log') or ''
+                found = refusal(said, crate, proof)
             if not found:
                 missing.append(f'{crate}/{label}: {name} is not refused in {proof}')
                 continue
             print(f'{crate}/{label}: {name}: {found[0]} in {proof}: {found[1][:150]}', flush=True)
             counted[found[0]] += 1
-            strong.update(refused_with(said, function) if found[0] in STRONG else [])
+            reached = refused_with(said, function)
+            refusals.update(reached)
+            strong.update(reached if found[0] in STRONG else [])
 
 
 def of_whole_words(crates):
     """Tries the edits of these crates; gives what is missing."""
-    missing, counted, strong = [], collections.Counter(), collections.Counter()
+    missing, counted, refusals, strong, weak = [], collections.Counter(), collections.Counter(), collections.Counter(), []
     with tempfile.TemporaryDirectory() as copy:
         shutil.copytree('crates', f'{copy}/crates', ignore=shutil.ignore_patterns('out', 'must-fail'))
         for file in ('crates.txt', 'HANDLES'):
@@ -271,10 +272,12 @@ def of_whole_words(crates):
             if 'logic=proved' not in as_it_stands:
                 missing.append(f'{crate} is not proved as it stands')
                 continue
-            tried(copy, crate, missing, counted, strong)
-            if os.path.exists(f'crates/{crate}/src/lib.rt') and not re.search(rf'^{crate} staticlib', open('crates.txt', encoding='utf-8').read(), re.M):
-                missing += [f'{function}: {strong[function]} strong refusals, and a public function has two'
-                            for function in public_functions(crate) if strong[function] < 2]
+            tried(copy, crate, missing, counted, refusals, strong)
+            if os.path.exists(f'crates/{crate}/src/lib.rt'):
+                public = public_functions(crate)
+                missing += [f'{function}: {refusals[function]} refusals, and a public function has two' for function in public if refusals[function] < 2]
+                weak += [f'{function} {strong[function]}' for function in public if strong[function] < 2]
+    print('public functions with fewer than two strong refusals: ' + (', '.join(weak) or 'none'))
     print(f'{sum(counted.values())} wrong answers refused: ' + ', '.join(f'{counted[kind]} by {kind}' for kind in [*STRONG, *WEAK]))
     return missing
 

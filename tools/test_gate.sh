@@ -165,11 +165,12 @@ ends 'the whole words: all is well' 0 '2 wrong answers refused: 2 by unequal goa
 
 repository
 says 4 '`rw`: no occurrence of the left endpoint'
-ends 'the whole words: one strong refusal' 1 'MISSING: number::half: 1 strong refusals.*' 'python3 tools/refused.py --try number'
+ends 'the whole words: one strong refusal' 0 '2 wrong answers refused: 1 by unequal goal.* 1 by "no occurrence".*' 'python3 tools/refused.py --try number'
+prints 'public functions with fewer than two strong refusals: number::half 1'
 
 repository
 says 4 '`one` was not admitted'
-ends 'the whole words: not refused in its own proof' 1 'MISSING: number::half: 1 strong refusals.*' 'python3 tools/refused.py --try'
+ends 'the whole words: not refused in its own proof' 1 'MISSING: number::half: 1 refusals.*' 'python3 tools/refused.py --try'
 prints 'two is not refused in half'
 
 repository

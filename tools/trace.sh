@@ -1,5 +1,5 @@
 #!/usr/bin/env bash
-# trace.sh TEXT: prove and build the job program if need be, and answer the job that a readable text describes (tools/job.py).
+# trace.sh TEXT: proves and builds the job program, and answers the job that a readable text describes (tools/job.py).
 set -eu
 root="$(cd "$(dirname "$0")/.." && pwd)"
 job="$(mktemp)"
