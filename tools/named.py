@@ -21,7 +21,7 @@ DOCUMENTS = ['README.md', 'NOTICE', *sorted(glob.glob('docs/*.md')), *sorted(glo
 PATH = re.compile(r'(?<![\w/.-])((?:[\w.-]+/)+[\w.-]*\w)')
 WORD = re.compile(r"[A-Za-z_][\w'′]*(?:-[\w→]+)*\??")
 # Words of the Rust, of fdlibm's C, of a usage line, of a foreign command or of a verdict that need not be in the tree.
-FOREIGN = set('marching_intersection __kernel_rem_pio2 aabb march valgrind tool callgrind axioms libraries-built'.split())
+FOREIGN = set('marching_intersection __kernel_rem_pio2 aabb march valgrind tool callgrind axioms libraries-built libc cpu rattle_errno __xpg_strerror_r'.split())
 
 
 def tree_words():
