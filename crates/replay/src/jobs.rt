@@ -8,7 +8,7 @@ use std::io;
 use std::io::Write;
 
 // Writes the line of an input.
-pub fn write<W: Write>(bytes: &[u8], output: &mut W) -> io::Result<()>
+pub fn written<W: Write>(bytes: &[u8], output: &mut W) -> io::Result<()>
     requires { length bytes.now ≡ record_bytes }
 {
     let end = 2 + at_most(wire::two(bytes, 0), 400);

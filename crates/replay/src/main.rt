@@ -83,7 +83,7 @@ fn same<W: Write>(kind: u64, bytes: &[u8], output: &mut W) -> io::Result<bool>
         5 => crossings::same(bytes),
         6 => steps::same(bytes),
         7 => {
-            jobs::write(bytes, output)?;
+            jobs::written(bytes, output)?;
             true
         }
         8 => traces::same(bytes),

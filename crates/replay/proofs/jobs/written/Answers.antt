@@ -1,5 +1,5 @@
 use Rattle.answer.proofs.Text.{line_holds, line_count}
-use Rattle.replay.proofs.jobs.write.Goals as goal
+use Rattle.replay.proofs.jobs.written.Goals as goal
 
 -- the line's bytes are there to be lent on
 pub slice_bounds-line-end : goal.slice_bounds-line-end
