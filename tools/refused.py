@@ -46,6 +46,9 @@ WEAK = {
 }
 # Not a refusal of the wrong answer: what it rests on was refused, or a name is gone.
 GONE = re.compile(r'has no field|is not in scope|has no `|was not admitted|was not checked')
+# rt prints so much of an error; of one that is longer the kind may not show.
+PRINTED = 160
+CUT = 'an error too long to show its kind'
 FUNCTION = re.compile(r'^( *)(pub )?(?:const )?(?:extern "C" )?fn (\w+)', re.M)
 PLACE = re.compile(r'(?:\./)?proofs/(.+?)(?:/(?:Answers|Invariants|Proof))?\.antt$')
 POSITION = re.compile(r'(?:note: )?(?:\./)?(\S+?):(\d+):\d+: (?:error: )?(.*)')
@@ -95,7 +98,10 @@ def place_of(crate, path, line):
     source = f'crates/{crate}/{path}'
     if not path.startswith('src/') or not os.path.exists(source):
         return path
-    text = ''.join(open(source, encoding='utf-8').readlines()[:line])
+    lines = open(source, encoding='utf-8').readlines()
+    while line < len(lines) and lines[line - 1].startswith('#['):
+        line += 1
+    text = ''.join(lines[:line])
     found = [item for item in FUNCTION.finditer(text)]
     if not found:
         return path
@@ -119,6 +125,8 @@ def first_error(crate, label, answers, said):
         return None, f'it is refused by no error of a place: {told[:200]}'
     path, line, words = position.groups()
     place, kind = place_of(crate, path, int(line)), kind_of(words)
+    if not kind and len(refused.group(1)) >= PRINTED and not GONE.search(words):
+        kind = CUT
     if not kind:
         return None, f'its first error, in {place}, shows nothing of a contract: {words}'
     named, code = {proof for _, proof, _ in answers}, all(path.startswith('src/') for _, _, changes in answers for path, _, _ in changes)
@@ -147,7 +155,7 @@ def of_first_errors(said):
         print(f'{crate}/{label}: {len(answers)} wrong answers: {kind} in {place}: {words[:150]}')
         counted[kind] += 1
         elsewhere += place not in {proof for _, proof, _ in answers}
-    print(f'{sum(counted.values())} edits refused: ' + ', '.join(f'{counted[kind]} by {kind}' for kind in [*STRONG, *WEAK])
+    print(f'{sum(counted.values())} edits refused: ' + ', '.join(f'{counted[kind]} by {kind}' for kind in [*STRONG, *WEAK, CUT])
           + f'; {elsewhere} of them first in a proof that rests on a definition changed')
     return missing
 
