@@ -1,3 +1,4 @@
+use lib.ListN.{length}
 use borrow.Author.Tests.{lt-ltb}
 use Rattle.capi.proofs.Answers.{crossing_word}
 use Rattle.capi.specs.Crossing.{crossing_answer}
@@ -5,7 +6,7 @@ use Rattle.capi.proofs.geomcore_crossing.Goals as goal
 
 pub returns-then-corners-lt6 : goal.returns-then-corners-lt6
 unfolding crossing_answer
-returns-then-corners-lt6 c = rw (lt-ltb _ _ c.if-corners-lt6.true) c.number.ensures
+returns-then-corners-lt6 c = rw (lt-ltb (length c.args.corners.now) 6 c.if-corners-lt6.true) c.number.ensures
 
 pub returns : goal.returns
 returns c =

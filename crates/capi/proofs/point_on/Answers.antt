@@ -1,3 +1,4 @@
+use lib.ListN.{length}
 use borrow.Author.Tests.{lt-ltb}
 use Rattle.capi.proofs.Answers.{on_refused, on_located}
 use Rattle.capi.specs.Point.{point_on}
@@ -5,7 +6,7 @@ use Rattle.capi.proofs.point_on.Goals as goal
 
 pub returns-then-out-lt3 : goal.returns-then-out-lt3
 unfolding point_on
-returns-then-out-lt3 c = rw (lt-ltb _ _ c.if-out-lt3.true, c.number.ensures)
+returns-then-out-lt3 c = rw (lt-ltb (length c.args.out.now) 3 c.if-out-lt3.true, c.number.ensures)
 
 pub returns-in-Refused : goal.returns-in-Refused
 returns-in-Refused c =

@@ -13,22 +13,22 @@ returns-then-four-ne-FOLLOWING c = rw (eq-eqb _ job_bytes c.if-bytes-ne-JOB_BYTE
 
 pub returns-then-one-ne1 : goal.returns-then-one-ne1
 unfolding job_of
-returns-then-one-ne1 c = rw (eq-eqb _ job_bytes c.if-bytes-ne-JOB_BYTES.false, ← c.four.ensures.0, eq-eqb _ following c.if-four-ne-FOLLOWING.false, ← c.one.ensures.0, ne_eqb _ 1 c.if-one-ne1.true)
+returns-then-one-ne1 c = rw (eq-eqb _ job_bytes c.if-bytes-ne-JOB_BYTES.false, ← c.four.ensures.0, eq-eqb _ following c.if-four-ne-FOLLOWING.false, ← c.one.ensures.0, ne_eqb c.one.result 1 c.if-one-ne1.true)
 
 pub returns-in_default : goal.returns-in_default
 unfolding job_of
 returns-in_default c =
     rw (eq-eqb _ job_bytes c.if-bytes-ne-JOB_BYTES.false, ← c.four.ensures.0, eq-eqb _ following c.if-four-ne-FOLLOWING.false)
-    (rw (← c.one.ensures.0, eq-eqb _ 1 c.if-one-ne1.false, ← c.surface_at.ensures, c.in_default.is))
+    (rw (← c.one.ensures.0, eq-eqb c.one.result 1 c.if-one-ne1.false, ← c.surface_at.ensures, c.in_default.is))
 
 pub returns-in_default-surface_at : goal.returns-in_default-surface_at
 unfolding job_of
 returns-in_default-surface_at c =
     rw (eq-eqb _ job_bytes c.if-bytes-ne-JOB_BYTES.false, ← c.four.ensures.0, eq-eqb _ following c.if-four-ne-FOLLOWING.false)
-    (rw (← c.one.ensures.0, eq-eqb _ 1 c.if-one-ne1.false, ← c.surface_at.ensures, c.in-Whole.is, ← c.surface_at-2.ensures, c.in_default-surface_at.is))
+    (rw (← c.one.ensures.0, eq-eqb c.one.result 1 c.if-one-ne1.false, ← c.surface_at.ensures, c.in-Whole.is, ← c.surface_at-2.ensures, c.in_default-surface_at.is))
 
 pub returns : goal.returns
 unfolding job_of
 returns c =
     rw (eq-eqb _ job_bytes c.if-bytes-ne-JOB_BYTES.false, ← c.four.ensures.0, eq-eqb _ following c.if-four-ne-FOLLOWING.false)
-    (rw (← c.one.ensures.0, eq-eqb _ 1 c.if-one-ne1.false, ← c.surface_at.ensures, c.in-Whole.is, ← c.surface_at-2.ensures, c.in-Whole-surface_at.is, ← c.job_at.ensures))
+    (rw (← c.one.ensures.0, eq-eqb c.one.result 1 c.if-one-ne1.false, ← c.surface_at.ensures, c.in-Whole.is, ← c.surface_at-2.ensures, c.in-Whole-surface_at.is, ← c.job_at.ensures))

@@ -1,3 +1,4 @@
+use lib.ListN.{length}
 use borrow.Author.Tests.{eq-eqb, ne_eqb, le-leb, lt-leb}
 use Rattle.trace_file.specs.Layout.{numbers_place}
 use Rattle.trace_file.specs.File.{header_fits}
@@ -6,17 +7,17 @@ use Rattle.trace_file.proofs.read.header_fits.Goals as goal
 
 pub returns-then-file-lt-NUMBERS : goal.returns-then-file-lt-NUMBERS
 unfolding header_fits
-returns-then-file-lt-NUMBERS c = rw (lt-leb numbers_place _ c.if-file-lt-NUMBERS.true)
+returns-then-file-lt-NUMBERS c = rw (lt-leb numbers_place (length c.args.file.now) c.if-file-lt-NUMBERS.true)
 
 pub returns-then-one-version : goal.returns-then-one-version
 unfolding header_fits
-returns-then-one-version c = rw (le-leb numbers_place _ c.if-file-lt-NUMBERS.false, ← c.one.ensures.0, ne_eqb c.one.result _ c.if-one-version.true)
+returns-then-one-version c = rw (le-leb numbers_place (length c.args.file.now) c.if-file-lt-NUMBERS.false, ← c.one.ensures.0, ne_eqb c.one.result _ c.if-one-version.true)
 
 pub returns-then-claim_fits : goal.returns-then-claim_fits
 unfolding header_fits
 returns-then-claim_fits c =
     rw (
-      le-leb numbers_place _ c.if-file-lt-NUMBERS.false,
+      le-leb numbers_place (length c.args.file.now) c.if-file-lt-NUMBERS.false,
       ← c.one.ensures.0,
       eq-eqb c.one.result _ c.if-one-version.false,
       ← c.count_in.ensures.0,
@@ -29,7 +30,7 @@ pub returns-else-claim_fits : goal.returns-else-claim_fits
 unfolding header_fits
 returns-else-claim_fits c =
     rw (
-      le-leb numbers_place _ c.if-file-lt-NUMBERS.false,
+      le-leb numbers_place (length c.args.file.now) c.if-file-lt-NUMBERS.false,
       ← c.one.ensures.0,
       eq-eqb c.one.result _ c.if-one-version.false,
       ← c.count_in.ensures.0,

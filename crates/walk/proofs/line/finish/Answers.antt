@@ -8,8 +8,8 @@ use Rattle.walk.proofs.line.finish.Goals as goal
 
 pub returns-then-count-lt-LEAST_POINTS : goal.returns-then-count-lt-LEAST_POINTS
 unfolding finished_of
-returns-then-count-lt-LEAST_POINTS c = rw (lt-leb least_points _ c.if-count-lt-LEAST_POINTS.true) (ap (outcome _) (c.clear.ensures ∙ cleared c.args.points.now))
+returns-then-count-lt-LEAST_POINTS c = rw (lt-leb least_points c.args.count c.if-count-lt-LEAST_POINTS.true) (ap (outcome _) (c.clear.ensures ∙ cleared c.args.points.now))
 
 pub returns : goal.returns
 unfolding finished_of
-returns c = rw (le-leb least_points _ c.if-count-lt-LEAST_POINTS.false) (ap (outcome _) c.clear-2.ensures)
+returns c = rw (le-leb least_points c.args.count c.if-count-lt-LEAST_POINTS.false) (ap (outcome _) c.clear-2.ensures)
