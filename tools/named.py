@@ -20,13 +20,13 @@ import sys
 DOCUMENTS = ['README.md', 'NOTICE', *sorted(glob.glob('docs/*.md')), *sorted(glob.glob('docs/parts/*.md'))]
 PATH = re.compile(r'(?<![\w/.-])((?:[\w.-]+/)+[\w.-]*\w)')
 WORD = re.compile(r"[A-Za-z_][\w'′]*(?:-[\w→]+)*\??")
-# Words of the Rust, of fdlibm's C, of a usage line, of a foreign command or of a verdict that need not be in the tree.
-FOREIGN = set('marching_intersection __kernel_rem_pio2 aabb march valgrind tool callgrind axioms libraries-built libc cpu rattle_errno __xpg_strerror_r'.split())
+# Words of the Rust, of fdlibm's C, of a usage line, of a foreign command, of a verdict or of an older kit that need not be in the tree.
+FOREIGN = set('rattle-kit-5b-plain marching_intersection __kernel_rem_pio2 aabb march valgrind tool callgrind axioms libraries-built libc cpu rattle_errno __xpg_strerror_r'.split())
 
 
 def tree_words():
     """Every word of the files that are no documents."""
-    words = set()
+    words = set(WORD.findall(open('toolchain', encoding='utf-8').read()))
     for top in ('crates', 'oracle', 'tools', 'include', 'wrapper', 'bench', 'examples-c', '.ci'):
         for folder, folders, files in os.walk(top):
             folders[:] = [name for name in folders if name not in ('out', 'target')]
