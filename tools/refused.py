@@ -24,18 +24,22 @@ its own, and a goal that it does not close shows nothing unequal. That takes a c
 tried alone; what was said is left in target/must-fail/CRATE/.
 """
 import collections
+import concurrent.futures
 import glob
+import hashlib
+import json
 import os
 import re
 import shutil
 import subprocess
 import sys
 import tempfile
+import threading
 
 # Strong: the prover shows what is unequal, what is left to prove, or that values break it.
 STRONG = {
     'unequal goal': re.compile(r'the two types (?:first differ|differ only|are)\b|≟ `.*`: does not hold'),
-    'unequal type': re.compile(r'expected type `(?!goal\.)'),
+    'unequal type': re.compile(r'expected type `(?!goal\.(?!the-asks-))'),
     'goal left by rewriting': re.compile(r'give a proof of that as the last argument'),
     'counterexample': re.compile(r'All of that holds, and (?:the goal|the part|it) fails|the facts known there allow values'),
 }
@@ -242,52 +246,105 @@ def checked(copy, crate, changes, log):
     return said
 
 
-def tried(copy, crate, missing, counted, refusals, strong):
-    """Tries the edits of a crate, and counts its refusals."""
-    for edit in sorted(glob.glob(f'crates/{crate}/must-fail/*.edit')):
-        label, answers = os.path.basename(edit)[:-len('.edit')], read(edit)
-        wrong = fault(answers)
-        log = None if wrong else checked(copy, crate, [change for _, _, changes in answers for change in changes], f'target/must-fail/{crate}/{label}.log')
+class Tried:
+    """What came of the edits of a crate: the lines to print, what is missing, the refusals by kind, those of a function, the strong ones."""
+
+    def __init__(self):
+        self.lines, self.missing = [], []
+        self.counted, self.refusals, self.strong = collections.Counter(), collections.Counter(), collections.Counter()
+
+    def edit(self, copy, crate, label, answers):
+        """Tries an edit, and alone each wrong answer whose refusal the others hide."""
+        logs = f'target/must-fail/{crate}/{label}'
+        log = checked(copy, crate, [change for _, _, changes in answers for change in changes], f'{logs}.log')
         if log is None:
-            missing.append(f'{crate}/{label}: {wrong or "an `old:` text does not stand once in its file"}')
-            continue
+            self.missing.append(f'{crate}/{label}: an `old:` text does not stand once in its file')
+            return
         for name, proof, changes in answers:
             function, said = '::'.join([crate] + proof.split('/')), log
             found = refusal(said, crate, proof)
-            if len(answers) > 1 and not found:
-                said = checked(copy, crate, changes, f'target/must-fail/{crate}/{label}.{name}.log') or ''
-                found = refusal(said, crate, proof)
+            if len(answers) > 1 and not (found and found[0] in STRONG):
+                alone = checked(copy, crate, changes, f'{logs}.{name}.log') or ''
+                if refusal(alone, crate, proof):
+                    said, found = alone, refusal(alone, crate, proof)
             if not found:
-                missing.append(f'{crate}/{label}: {name} is not refused in {proof}')
+                self.missing.append(f'{crate}/{label}: {name} is not refused in {proof}')
                 continue
-            print(f'{crate}/{label}: {name}: {found[0]} in {proof}: {found[1][:150]}', flush=True)
-            counted[found[0]] += 1
+            self.lines.append(f'{crate}/{label}: {name}: {found[0]} in {proof}: {found[1][:150]}')
+            self.counted[found[0]] += 1
             reached = refused_with(said, function)
-            refusals.update(reached)
-            strong.update(reached if found[0] in STRONG else [])
+            self.refusals.update(reached)
+            self.strong.update(reached if found[0] in STRONG else [])
+
+    def crate(self, copy, crate):
+        """Tries the edits of a crate."""
+        if 'logic=proved' not in checked(copy, crate, [], f'target/must-fail/{crate}/.log'):
+            self.missing.append(f'{crate} is not proved as it stands')
+            return self
+        for edit in sorted(glob.glob(f'crates/{crate}/must-fail/*.edit')):
+            label, answers = os.path.basename(edit)[:-len('.edit')], read(edit)
+            if fault(answers):
+                self.missing.append(f'{crate}/{label}: {fault(answers)}')
+            else:
+                self.edit(copy, crate, label, answers)
+        if os.path.exists(f'crates/{crate}/src/lib.rt'):
+            self.missing += [f'{function}: {self.strong[function]} strong refusals of {self.refusals[function]}, and a public function has two'
+                             for function in public_functions(crate) if self.strong[function] < 2]
+        return self
 
 
-def of_whole_words(crates):
-    """Tries the edits of these crates; gives what is missing."""
-    missing, counted, refusals, strong, weak = [], collections.Counter(), collections.Counter(), collections.Counter(), []
-    with tempfile.TemporaryDirectory() as copy:
-        shutil.copytree('crates', f'{copy}/crates', ignore=shutil.ignore_patterns('out', 'must-fail'))
-        for file in ('crates.txt', 'HANDLES'):
-            if os.path.exists(file):
-                shutil.copy(file, copy)
-        for crate in crates:
-            as_it_stands = checked(copy, crate, [], f'target/must-fail/{crate}/.log')
-            if 'logic=proved' not in as_it_stands:
-                missing.append(f'{crate} is not proved as it stands')
-                continue
-            tried(copy, crate, missing, counted, refusals, strong)
-            if os.path.exists(f'crates/{crate}/src/lib.rt'):
-                public = public_functions(crate)
-                missing += [f'{function}: {refusals[function]} refusals, and a public function has two' for function in public if refusals[function] < 2]
-                weak += [f'{function} {strong[function]}' for function in public if strong[function] < 2]
-    print('public functions with fewer than two strong refusals: ' + (', '.join(weak) or 'none'))
+def sum_of(crate, uses):
+    """The checksum of all that the trial of a crate reads: its files and those of the crates below it, its edits, the kit, this tool."""
+    reached, more = set(), {crate}
+    while more:
+        reached |= more
+        more = {name for it in more for name in uses.get(it, ())} & set(uses) - reached
+    paths = [path for it in reached for part in ('src', 'specs', 'proofs') for path in glob.glob(f'crates/{it}/{part}/**/*', recursive=True)]
+    paths += [*glob.glob(f'crates/{crate}/must-fail/*.edit'), 'crates.txt', 'tools/refused.py']
+    made = hashlib.sha256(subprocess.run(['rt', 'version'], stdout=subprocess.PIPE, check=True).stdout)
+    for path in sorted(path for path in paths if os.path.isfile(path)):
+        with open(path, 'rb') as file:
+            made.update(path.encode() + b'\0' + hashlib.sha256(file.read()).digest())
+    return made.hexdigest()
+
+
+def copy_of_crates(folder):
+    """A copy of the crates to change and check, of a worker's own: checks in one tree wait for one another."""
+    copy = tempfile.mkdtemp(dir=folder)
+    shutil.copytree('crates', f'{copy}/crates', ignore=shutil.ignore_patterns('out', 'must-fail'))
+    for file in ('crates.txt', 'HANDLES'):
+        if os.path.exists(file):
+            shutil.copy(file, copy)
+    return copy
+
+
+def of_whole_words(crates, uses):
+    """Tries the edits of these crates, but of those that passed on this machine with all that they read; gives what is missing."""
+    kept = os.path.join(os.environ.get('XDG_CACHE_HOME') or os.path.expanduser('~/.cache'), 'geomcore-refused')
+    os.makedirs(kept, exist_ok=True)
+    mine = threading.local()
+
+    def one(crate):
+        file = f'{kept}/{sum_of(crate, uses)}'
+        if os.path.exists(file):
+            counted = json.load(open(file, encoding='utf-8'))
+            print(f'{crate} is kept: an earlier run on this machine tried the same edits of the same files', flush=True)
+            return [], collections.Counter(counted)
+        if not hasattr(mine, 'copy'):
+            mine.copy = copy_of_crates(folder)
+        came = Tried().crate(mine.copy, crate)
+        print('\n'.join(came.lines), flush=True)
+        if not came.missing:
+            with open(f'{file}.{os.getpid()}', 'w', encoding='utf-8') as it:
+                json.dump(came.counted, it)
+            os.replace(f'{file}.{os.getpid()}', file)
+        return came.missing, came.counted
+
+    with tempfile.TemporaryDirectory() as folder, concurrent.futures.ThreadPoolExecutor(max(1, (os.cpu_count() or 2) // 2)) as workers:
+        came = list(workers.map(one, crates))
+    counted = sum((it[1] for it in came), collections.Counter())
     print(f'{sum(counted.values())} wrong answers refused: ' + ', '.join(f'{counted[kind]} by {kind}' for kind in [*STRONG, *WEAK]))
-    return missing
+    return [line for it in came for line in it[0]]
 
 
 def main():
@@ -296,8 +353,9 @@ def main():
         sys.exit('usage: tools/refused.py SAID | tools/refused.py --try [CRATE ..]')
     said = None if words[0] == '--try' else read_said(words[0])
     os.chdir(os.path.join(os.path.dirname(os.path.abspath(__file__)), '..'))
-    crates = [line.split(':')[0].split()[0] for line in open('crates.txt', encoding='utf-8') if ':' in line and not line.startswith('#')]
-    missing = of_first_errors(said) if said is not None else of_whole_words(words[1:] or crates)
+    lines = [line for line in open('crates.txt', encoding='utf-8') if ':' in line and not line.startswith('#')]
+    uses = {line.split(':')[0].split()[0]: line.split(':')[1].split() for line in lines}
+    missing = of_first_errors(said) if said is not None else of_whole_words(words[1:] or list(uses), uses)
     for line in missing:
         print(f'MISSING: {line}')
     return 1 if missing else 0

@@ -6,7 +6,7 @@ cd "$(dirname "$0")/.."
 gate=$PWD
 room=$(mktemp -d)
 trap 'rm -rf "$room"' EXIT
-export PATH="$room/bin:$PATH" ROOM="$room"
+export PATH="$room/bin:$PATH" ROOM="$room" XDG_CACHE_HOME="$room/kept"
 
 # The stand-in: `ci` prints $ROOM/ci and ends with the status in $ROOM/status; `check` prints $ROOM/check-N where the function divides by N.
 mkdir "$room/bin"
@@ -45,7 +45,7 @@ says() {
 
 # A repository of one public function with two wrong answers, both refused as they must be.
 repository() {
-    rm -rf "$room/repository"
+    rm -rf "$room/repository" "$room/kept"
     mkdir -p "$room/repository/.ci" "$room/repository/tools" "$room/repository/crates/number/src" "$room/repository/crates/number/must-fail"
     cp "$gate/.ci/run" "$room/repository/.ci/run"
     cp "$gate/tools/refused.py" "$room/repository/tools/refused.py"
@@ -162,16 +162,21 @@ prints 'warning: the figures in the documents were made with kit logic 0123'
 
 repository
 ends 'the whole words: all is well' 0 '2 wrong answers refused: 2 by unequal goal.*' 'python3 tools/refused.py --try'
+ends 'the whole words: kept' 0 '2 wrong answers refused: 2 by unequal goal.*' 'python3 tools/refused.py --try number'
+prints 'number is kept'
+says 3 '`one` was not admitted'
+sed -i 's/wrong: one/wrong: uno/' "$room/repository/crates/number/must-fail/one.edit"
+ends 'the whole words: an edit that changed is tried again' 1 'MISSING: number::half: 1 strong refusals of 1.*' 'python3 tools/refused.py --try'
 
 repository
 says 4 '`rw`: no occurrence of the left endpoint'
-ends 'the whole words: one strong refusal' 0 '2 wrong answers refused: 1 by unequal goal.* 1 by "no occurrence".*' 'python3 tools/refused.py --try number'
-prints 'public functions with fewer than two strong refusals: number::half 1'
+ends 'the whole words: one strong refusal' 1 'MISSING: number::half: 1 strong refusals of 2.*' 'python3 tools/refused.py --try number'
 
 repository
 says 4 '`one` was not admitted'
-ends 'the whole words: not refused in its own proof' 1 'MISSING: number::half: 1 refusals.*' 'python3 tools/refused.py --try'
+ends 'the whole words: not refused in its own proof' 1 'MISSING: number::half: 1 strong refusals of 1.*' 'python3 tools/refused.py --try'
 prints 'two is not refused in half'
+ends 'the gate: not refused in its own proof' 1 'THE GATE FAILED: tools/refused.py --try.*'
 
 repository
 printf 'note: src/lib.rt:1:1: `search` found no proof (`returns`); the facts known there allow values at which this goal is false\nfn number::half: no proof: x\n' >"$room/check-4"

@@ -1,0 +1,8 @@
+-- Where the input had bytes enough, it gave them; else nothing is said.
+use Rattle.recorded.proofs.words.next.Goals as goal
+
+pub returns-in-Ok : goal.returns-in-Ok
+returns-in-Ok g c = c.in-Ok.ensures.bytes
+
+pub returns-then-eq : goal.returns-then-eq
+returns-then-eq g c = tt
