@@ -38,7 +38,7 @@ import threading
 
 # Strong: the prover shows what is unequal, what is left to prove, or that values break it.
 STRONG = {
-    'unequal goal': re.compile(r'the two types (?:first differ|differ only|are)\b|≟ `.*`: does not hold'),
+    'unequal goal': re.compile(r'the two types (?:first differ|differ only|are)\b|≟ `.*`:? does not hold'),
     'unequal type': re.compile(r'expected type `(?!goal\.(?!the-asks-))'),
     'goal left by rewriting': re.compile(r'give a proof of that as the last argument'),
     'counterexample': re.compile(r'All of that holds, and (?:the goal|the part|it) fails|the facts known there allow values'),
@@ -89,7 +89,7 @@ def fault(answers):
 
 def kind_of(words):
     """The kind of a refusal in the prover's words, or None."""
-    if GONE.search(words):
+    if GONE.search(words.split('\n')[0]):
         return None
     return next((kind for kinds in (STRONG, WEAK) for kind, said in kinds.items() if said.search(words)), None)
 
@@ -171,12 +171,12 @@ def errors_of(log, crate):
     lines, found, waiting = [], [], []
     for line in log.split('\n'):
         if line.startswith('  ') and lines:
-            lines[-1] += ' ' + line.strip()
+            lines[-1] += '\n' + line.strip()
         else:
             lines.append(line)
     for line in lines:
-        error = re.match(r'(?:\./)?(proofs/\S+?\.antt):\d+:\d+: error: (.*)', line)
-        goal = re.match(r'(?:so far: )?note: (?:\./)?src/\S+?:\d+:\d+: (.*)', line)
+        error = re.match(r'(?:\./)?(proofs/\S+?\.antt):\d+:\d+: error: (.*)', line, re.S)
+        goal = re.match(r'(?:so far: )?note: (?:\./)?src/\S+?:\d+:\d+: (.*)', line, re.S)
         function = re.match(r'fn ' + crate + r'::(\S+): (?:not proved|no proof)', line)
         if error:
             found.append((PLACE.match(error.group(1)).group(1), error.group(2)))
@@ -270,7 +270,7 @@ class Tried:
             if not found:
                 self.missing.append(f'{crate}/{label}: {name} is not refused in {proof}')
                 continue
-            self.lines.append(f'{crate}/{label}: {name}: {found[0]} in {proof}: {found[1][:150]}')
+            self.lines.append(f'{crate}/{label}: {name}: {found[0]} in {proof}: {found[1].splitlines()[0][:150]}')
             self.counted[found[0]] += 1
             reached = refused_with(said, function)
             self.refusals.update(reached)
