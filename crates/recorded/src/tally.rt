@@ -13,7 +13,7 @@ const BEYOND: u64 = 0x7ff8_0000_0000_0001;
 const NAN: u64 = 0x7ff8_0000_0000_0000;
 
 // How many records were compared, how many of them differ, and which was the first that did (from 0).
-#[derive(Drop)]
+#[derive(Clone, Copy)]
 pub struct Tally {
     pub compared: u64,
     pub differ: u64,

@@ -7,7 +7,7 @@ use std::io;
 use std::io::{Read, Write};
 
 // What is counted of each function.
-#[derive(Drop)]
+#[derive(Clone, Copy)]
 struct Tallies {
     sines: Tally,
     cosines: Tally,
