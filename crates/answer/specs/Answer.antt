@@ -1,22 +1,20 @@
 -- The line that answers a job, from the bytes of its file alone. Definitions only.
-use Rattle.std.specs.Prelude.{◌≡◌, List, ℕ, eqb, length, replicate, Float}
+use Rattle.std.specs.Prelude.{◌≡◌, List, ℕ, eqb, length, replicate, Float, Ok, Err}
 use Rattle.loops.specs.Loop.{pick}
 use Rattle.loops.specs.Over.{written}
 use Rattle.number.specs.Operators.{bits}
 use Rattle.refusal.specs.declared.Refusal.{Refusal}
 use Rattle.refusal.specs.Refusal.{number_of}
-use Rattle.groups.specs.declared.traced.Traced.{Traced}
-use Rattle.groups.specs.declared.traced.Traced.TheVariants as traced
+use Rattle.groups.specs.Traced.{TraceAnswer}
 use Rattle.groups.specs.Traced.{refusal_of, count_of, start_of, closing_of}
 use Rattle.walk.specs.Trace.{trace_of}
-use Rattle.job.specs.declared.file.JobRead.{JobRead}
-use Rattle.job.specs.declared.file.JobRead.TheVariants.{Whole, Refused}
+use Rattle.job.specs.File.{JobRead}
 use Rattle.job.specs.File.{job_of}
 use Rattle.answer.specs.Line.{trace_line, refused_line}
 use Rattle.passing.specs.Promises.{JobPasses}
 
 -- "It writes one line: `trace`, count, start index, code in decimal, or `refused` and the number."
-unfoldable pub answer_line : Traced → List ℕ
+unfoldable pub answer_line : TraceAnswer → List ℕ
 answer_line t = pick (eqb (refusal_of t) 0) (trace_line (count_of t) (start_of t) (closing_of t)) (refused_line (refusal_of t))
 
 -- "It lends 7,007 numbers": zeros at first
@@ -24,12 +22,12 @@ unfoldable pub lent_numbers : List Float
 lent_numbers = replicate 7007 (bits 0)
 
 -- the walk of the job that was read, over the numbers lent
-abbrev pub walk_after_reading : JobRead → Traced
-walk_after_reading (Refused r) = traced.Refused r
-walk_after_reading (Whole j) = (trace_of j.a j.b j.tol j.guess j.cap lent_numbers).answer
+abbrev pub walk_after_reading : JobRead → TraceAnswer
+walk_after_reading (Err r) = Err r
+walk_after_reading (Ok j) = (trace_of j.a j.b j.tol j.guess j.cap lent_numbers).answer
 
 -- 19 is "tested before all else"; then the walk answers
-unfoldable pub answer_of : List ℕ → Traced
+unfoldable pub answer_of : List ℕ → TraceAnswer
 answer_of bytes = walk_after_reading (job_of bytes)
 
 -- the line that the program writes

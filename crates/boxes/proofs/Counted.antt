@@ -1,4 +1,5 @@
 -- The crossing says yes exactly when nothing refuses and some segment counts, and no exactly when nothing refuses and none does.
+use Rattle.std.specs.Prelude.{Ok, Err}
 use mathlib.Core.Path.{◌≡◌, refl, ap, sym, ◌∙◌}
 use mathlib.Core.Bool.{Bool, true, false, not}
 use mathlib.Core.Logic.{◌↔◌}
@@ -16,15 +17,13 @@ use Rattle.groups.proofs.Rows.{point_from_lem}
 use Rattle.geometry.specs.Tolerance.{tolerance_fit}
 use Rattle.geometry.specs.declared.tolerance.Tolerance.{Tolerance}
 use Rattle.refusal.specs.declared.Refusal.TheVariants as refusal
-use Rattle.refusal.specs.declared.Verdict.{Verdict}
-use Rattle.refusal.specs.declared.Verdict.TheVariants as verdict
+use Rattle.refusal.specs.Verdict.{Verdict}
 use Rattle.refusal.proofs.Laws.{number_positive}
 use Rattle.refusal.proofs.Order.{asked_held, first_passed}
 use Rattle.boxes.specs.declared.boxtree.Aabb.{Aabb}
 use Rattle.boxes.specs.Bounds.{boxes_apart, bounds_of}
 use Rattle.boxes.specs.Crosses.{segment_meets, some_segment, run_crosses, run_length, runs_of, run_start, run_points, run_at, some_run, grown_of, crosses_of}
-use Rattle.boxes.specs.declared.crossing.Crossed.{Crossed}
-use Rattle.boxes.specs.declared.crossing.Crossed.TheVariants.{Yes, No, Refused}
+use Rattle.boxes.specs.Crossing.{Crossed}
 use Rattle.boxes.specs.Crossing.{box_fit, unfit_at, some_unfit, refusal_of, crossed_of, crossing_tests, crossing_fitness, answer_of, crossing_of}
 use Rattle.boxes.specs.Counts.{run_bounds, Counts, Fit}
 
@@ -95,27 +94,27 @@ module _ (l : List Float) (count : ℕ) (b : Aabb) (confusion : Float) where
   crosses_counts = (counts_found, λ c. counts_crosses c.0 c.1)
 
 -- where a trace is not refused, the tests passed
-passed_of : (v : Verdict) (t : Bool) → refusal_of (answer_of v t) ≡ 0 → v ≡ verdict.Passed
-passed_of verdict.Passed t e = refl
-passed_of (verdict.Refused r) t e = let h = number_positive r in absurd (omega (arith, h, e))
+passed_of : (v : Verdict) (t : Bool) → refusal_of (answer_of v t) ≡ 0 → v ≡ Ok tt
+passed_of (Ok u) t e = refl
+passed_of (Err r) t e = let h = number_positive r in absurd (omega (arith, h, e))
 
-answered : (t : Bool) → refusal_of (pick t Yes No) ≡ 0
+answered : (t : Bool) → refusal_of (pick t (Ok true) (Ok false)) ≡ 0
 answered true = refl
 answered false = refl
 
-is_crossed : (t : Bool) → crossed_of (pick t Yes No) ≡ t
+is_crossed : (t : Bool) → crossed_of (pick t (Ok true) (Ok false)) ≡ t
 is_crossed true = refl
 is_crossed false = refl
 
 -- a crossed trace is not refused
 crossed_answer : (x : Crossed) → crossed_of x ≡ true → refusal_of x ≡ 0
-crossed_answer Yes e = refl
-crossed_answer No e = refl
-crossed_answer (Refused r) e = let z : ◌≡◌ {A = ℕ} 0 1 = cc in absurd (omega arith)
+crossed_answer (Ok true) e = refl
+crossed_answer (Ok false) e = refl
+crossed_answer (Err r) e = let z : ◌≡◌ {A = ℕ} 0 1 = cc in absurd (omega arith)
 
 module _ (tol : Tolerance) (l : List Float) (count : ℕ) (b : Aabb) where
   -- the tests pass exactly where nothing refuses
-  pub tests_fit : crossing_fitness tol l count b ≡ verdict.Passed → Fit tol l count b
+  pub tests_fit : crossing_fitness tol l count b ≡ Ok tt → Fit tol l count b
   unfolding crossing_fitness some_unfit
   tests_fit e =
       let s = first_passed (crossing_tests tol l count b) e in
@@ -130,14 +129,14 @@ module _ (tol : Tolerance) (l : List Float) (count : ℕ) (b : Aabb) where
         corners = asked_held (box_fit b) refusal.BoxNumber s.1.1.1.1.0;
       }
 
-  fit_tests : Fit tol l count b → crossing_fitness tol l count b ≡ verdict.Passed
+  fit_tests : Fit tol l count b → crossing_fitness tol l count b ≡ Ok tt
   unfolding crossing_fitness some_unfit holds_of
   fit_tests f =
       let n = any_none (unfit_at l) 0 count (λ i z h. ap not (f.coordinates i h)) in
       rw (f.tolerance, le-leb _ _ f.lent, fits_count count f.least f.most, n, f.corners)
 
   -- where nothing refuses, `crosses` answers
-  pub fit_answer : Fit tol l count b → crossing_of tol l count b ≡ pick (crosses_of l count b tol.confusion) Yes No
+  pub fit_answer : Fit tol l count b → crossing_of tol l count b ≡ pick (crosses_of l count b tol.confusion) (Ok true) (Ok false)
   unfolding crossing_of
   fit_answer f = rw (fit_tests f)
 

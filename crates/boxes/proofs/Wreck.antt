@@ -1,4 +1,5 @@
 -- "Dropping the run boxes: the rounded segment test can accept what a box keeps out." Two traces on which it does.
+use Rattle.std.specs.Prelude.{Ok}
 use mathlib.Core.Path.{◌≡◌, refl}
 use mathlib.Core.Bool.{true, false}
 use mathlib.Core.List.{List, ◌∷◌, ◌++◌}
@@ -9,7 +10,6 @@ use Rattle.number.specs.Operators.{bits}
 use Rattle.groups.specs.Groups.{width}
 use Rattle.geometry.specs.declared.tolerance.Tolerance.{Tolerance}
 use Rattle.boxes.specs.declared.boxtree.Aabb.{Aabb}
-use Rattle.boxes.specs.declared.crossing.Crossed.TheVariants.{No}
 use Rattle.boxes.specs.Bounds.{boxes_apart, bounds_of}
 use Rattle.boxes.specs.Crosses.{grown_of, segment_meets}
 use Rattle.boxes.specs.Crossing.{crossing_of}
@@ -36,7 +36,7 @@ short =
     ++ at (bits 0) (bits 0)
 
 -- the whole trace's box keeps out what the segment test accepts at the last segment
-pub whole_keeps_out : (crossing_of tol short 4 box ≡ No) × (segment_meets short (grown_of box tol.confusion) 2 ≡ true)
+pub whole_keeps_out : (crossing_of tol short 4 box ≡ (Ok false)) × (segment_meets short (grown_of box tol.confusion) 2 ≡ true)
 unfolding computing
 whole_keeps_out = (refl, refl)
 
@@ -53,7 +53,7 @@ long =
 
 -- the first run's box keeps out what the segment test accepts at its last segment, though the whole trace's box is not apart
 pub run_keeps_out :
-    (crossing_of tol long 19 box ≡ No) × (segment_meets long (grown_of box tol.confusion) 15 ≡ true)
+    (crossing_of tol long 19 box ≡ (Ok false)) × (segment_meets long (grown_of box tol.confusion) 15 ≡ true)
     × (boxes_apart (bounds_of long 19) (grown_of box tol.confusion) ≡ false)
 unfolding computing
 run_keeps_out = (refl, refl, refl)

@@ -1,5 +1,5 @@
 -- The public crossing. Definitions only.
-use Rattle.std.specs.Prelude.{Bool, true, false, not, ◌&&◌, List, [], ◌∷◌, ℕ, Float}
+use Rattle.std.specs.Prelude.{Bool, true, false, not, ◌&&◌, List, [], ◌∷◌, ℕ, Float, Ok, Err}
 use Rattle.loops.specs.Loop.{pick}
 use Rattle.loops.specs.Any.{any_in}
 use Rattle.number.specs.Operators.{◌<?◌}
@@ -10,12 +10,10 @@ use Rattle.geometry.specs.declared.tolerance.Tolerance.{Tolerance}
 use Rattle.geometry.specs.Point.{point_fit}
 use Rattle.refusal.specs.Refusal.{number_of}
 use Rattle.refusal.specs.declared.Refusal.TheVariants as refusal
-use Rattle.refusal.specs.declared.Verdict.{Verdict}
-use Rattle.refusal.specs.declared.Verdict.TheVariants as verdict
+use Rattle.refusal.specs.Verdict.{Verdict}
 use Rattle.refusal.specs.Verdict.{asked, first_refusal}
 use Rattle.boxes.specs.declared.boxtree.Aabb.{Aabb}
-use Rattle.boxes.specs.declared.crossing.Crossed.{Crossed}
-use Rattle.boxes.specs.declared.crossing.Crossed.TheVariants.{Yes, No, Refused}
+use Rattle.boxes.specs.Crossing.{Crossed}
 use Rattle.boxes.specs.Crosses.{crosses_of}
 
 -- not "a low side above its high side"
@@ -36,15 +34,15 @@ some_unfit l count = any_in (unfit_at l) 0 count
 
 -- the paper's number for each case (0: not refused)
 abbrev pub refusal_of : Crossed → ℕ
-refusal_of Yes = 0
-refusal_of No = 0
-refusal_of (Refused r) = number_of r
+refusal_of (Ok true) = 0
+refusal_of (Ok false) = 0
+refusal_of (Err r) = number_of r
 
 -- whether the trace is crossed
 abbrev pub crossed_of : Crossed → Bool
-crossed_of Yes = true
-crossed_of No = false
-crossed_of (Refused r) = false
+crossed_of (Ok true) = true
+crossed_of (Ok false) = false
+crossed_of (Err r) = false
 
 -- "Crossing: 5, 8, 12 (count only), 18, 17"
 abbrev pub crossing_tests : Tolerance → List Float → ℕ → Aabb → List Verdict
@@ -62,8 +60,8 @@ crossing_fitness tol l count b = first_refusal (crossing_tests tol l count b)
 
 -- where the tests pass, whether the trace crosses
 abbrev pub answer_of : Verdict → Bool → Crossed
-answer_of (verdict.Refused r) crosses = Refused r
-answer_of verdict.Passed crosses = pick crosses Yes No
+answer_of (Err r) crosses = Err r
+answer_of (Ok u) crosses = pick crosses (Ok true) (Ok false)
 
 -- the public crossing
 unfoldable pub crossing_of : Tolerance → List Float → ℕ → Aabb → Crossed

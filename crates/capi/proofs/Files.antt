@@ -1,4 +1,5 @@
 -- The words of the trace file's writer and reader.
+use Rattle.std.specs.Prelude.{Ok, Err}
 use mathlib.Core.Path.{◌≡◌, sym, ap, subst, ◌∙◌}
 use mathlib.Core.List.{List}
 use Prim.Native.Nat.{ℕ, ◌+◌, ◌*◌, ◌/◌, ◌%◌, ◌<◌}
@@ -7,9 +8,8 @@ use lib.Ieee.{Float}
 use lib.ListN.{take}
 use Rattle.refusal.specs.Refusal.{number_of}
 use Rattle.refusal.proofs.Laws.{number_small}
-use Rattle.groups.specs.declared.traced.Traced.{Traced}
-use Rattle.trace_file.specs.declared.write.Written.{Written}
-use Rattle.trace_file.specs.declared.write.Written.TheVariants.{Bytes, Refused}
+use Rattle.groups.specs.Traced.{TraceAnswer}
+use Rattle.trace_file.specs.Write.{Written}
 use Rattle.trace_file.specs.Layout.{version1, width1}
 use Rattle.trace_file.specs.Write.{refusal_of, bytes_of}
 use Rattle.trace_file.proofs.Back.{write_small, read_claim}
@@ -27,19 +27,19 @@ bytes_fit {l} {count} {start} {closing} {before} p =
     rw p.writes.answer (let h = write_small version1 width1 l count start closing before (omega arith) in omega (arith, h))
 
 -- so a file's bytes have
-pub bytes_small : {r : Written} {n : ℕ} → r ≡ Bytes n → bytes_of r < 4294967296 → n < 4294967296
+pub bytes_small : {r : Written} {n : ℕ} → r ≡ Ok n → bytes_of r < 4294967296 → n < 4294967296
 bytes_small e h = subst (λ (q : Written). bytes_of q < 4294967296) e h
 
 -- its parts
 word_number : (r : Written) → number_in (written_word r) ≡ refusal_of r
 unfolding written_word
-word_number (Bytes n) = let e : (0 + n * 4294967296) % 256 ≡ 0 = omega arith in e
-word_number (Refused q) = let h = number_small q in let e : (number_of q + 0 * 4294967296) % 256 ≡ number_of q = omega arith in e
+word_number (Ok n) = let e : (0 + n * 4294967296) % 256 ≡ 0 = omega arith in e
+word_number (Err q) = let h = number_small q in let e : (number_of q + 0 * 4294967296) % 256 ≡ number_of q = omega arith in e
 
 word_bytes : (r : Written) → bytes_in (written_word r) ≡ bytes_of r
 unfolding written_word
-word_bytes (Bytes n) = let e : (0 + n * 4294967296) / 4294967296 ≡ n = omega arith in e
-word_bytes (Refused q) = let h = number_small q in let e : (number_of q + 0 * 4294967296) / 4294967296 ≡ 0 = omega arith in e
+word_bytes (Ok n) = let e : (0 + n * 4294967296) / 4294967296 ≡ n = omega arith in e
+word_bytes (Err q) = let h = number_small q in let e : (number_of q + 0 * 4294967296) / 4294967296 ≡ 0 = omega arith in e
 
 pub written_word_lem : {l : List Float} {count start closing : ℕ} {before after : List ℕ} {r : Written} {w : ℕ} → WriteV1Promise l count start closing before after r → w ≡ written_word r
     → WriteWord l count start closing before after w
@@ -54,7 +54,7 @@ written_word_lem {after = after} {r = r} p e =
 
 -- ---- the reader's word
 
-module _ {file : List ℕ} {before after : List Float} {r : Traced} (p : ReadPromise version1 width1 file before after r) where
+module _ {file : List ℕ} {before after : List Float} {r : TraceAnswer} (p : ReadPromise version1 width1 file before after r) where
   -- what the reader answers has room in a word
   pub read_bounded : Bounded r
   read_bounded =

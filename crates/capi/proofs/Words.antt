@@ -1,4 +1,5 @@
 -- The words hold their parts apart, and 0 means that nothing is refused.
+use Rattle.std.specs.Prelude.{Ok, Err}
 use mathlib.Core.Path.{◌≡◌, refl, sym, ap, ◌∙◌, subst}
 use mathlib.Core.List.{List}
 use mathlib.Core.Logic.{⊎_elim}
@@ -12,18 +13,15 @@ use Rattle.refusal.proofs.Laws.{number_positive, number_small, Elsewhere, which,
 use Rattle.geometry.specs.declared.tolerance.Tolerance.{Tolerance}
 use Rattle.patch.specs.declared.patch.Patch.{Patch}
 use Rattle.patch.specs.declared.patch.Parameters.{Parameters}
-use Rattle.refusal.specs.declared.Verdict.{Verdict}
-use Rattle.refusal.specs.declared.Verdict.TheVariants as checked
+use Rattle.refusal.specs.Verdict.{Verdict}
 use Rattle.certificate.specs.Passes.{Passes}
 use Rattle.refusal.specs.Verdict as verdict
 use Rattle.certificate.proofs.Index.{check_index, code_small}
-use Rattle.groups.specs.declared.traced.Traced.{Traced}
-use Rattle.groups.specs.declared.traced.Traced.TheVariants as traced
+use Rattle.groups.specs.Traced.{TraceAnswer}
 use Rattle.groups.specs.Traced.{count_of, start_of, closing_of}
 use Rattle.groups.specs.Traced as trace
 use Rattle.job.specs.declared.file.Job.{Job}
-use Rattle.job.specs.declared.file.JobRead.{JobRead}
-use Rattle.job.specs.declared.file.JobRead.TheVariants.{Whole, Refused}
+use Rattle.job.specs.File.{JobRead}
 use Rattle.job.specs.File.{job_of}
 use Rattle.job.proofs.Unread.{unread}
 use Rattle.meeting.specs.Newton.{Unmet}
@@ -44,22 +42,22 @@ number_fits r = let h = number_small r in omega (arith, h)
 
 module _ {a b : Patch} {tol : Tolerance} {guess : Parameters} {cap : ℕ} {before after : List Float} where
   -- 9 and 21 have a round of at most 32, 21 has a column below 3, the others have neither
-  added_fits : (q : Refusal) → TracePromise a b tol guess cap before after (traced.Refused q) → (round_of q < 256) × (column_of q < 65536)
+  added_fits : (q : Refusal) → TracePromise a b tol guess cap before after (Err q) → (round_of q < 256) × (column_of q < 65536)
   added_fits q p =
       let rounds = p.rounds (round_of q) in
       ⊎_elim
-      (λ (e : q ≡ variant.NoMeeting (round_of q)). let h = rounds.0 (ap traced.Refused e) in let z : column_of q ≡ 0 = ap column_of e in (omega (arith, h), omega (arith, z)))
+      (λ (e : q ≡ variant.NoMeeting (round_of q)). let h = rounds.0 (ap Err e) in let z : column_of q ≡ 0 = ap column_of e in (omega (arith, h), omega (arith, z)))
       (λ h.
       ⊎_elim
       (λ (e : q ≡ variant.Singular (round_of q) (column_of q)).
-      let k = rounds.1 (column_of q) (ap traced.Refused e) in let l = p.columns (round_of q) (column_of q) (ap traced.Refused e) in (omega (arith, k), omega (arith, l)))
+      let k = rounds.1 (column_of q) (ap Err e) in let l = p.columns (round_of q) (column_of q) (ap Err e) in (omega (arith, k), omega (arith, l)))
       (λ (e : Elsewhere q). (omega (arith, e.0), omega (arith, e.1))) h)
       (which q)
 
   -- what `trace` answers has room in a word
-  pub bounded : (r : Traced) → TracePromise a b tol guess cap before after r → Bounded r
-  bounded (traced.Refused q) p = record { count = omega arith; start = omega arith; closing = omega arith; round = (added_fits q p).0; column = (added_fits q p).1 }
-  bounded (traced.Line count start closing) p =
+  pub bounded : (r : TraceAnswer) → TracePromise a b tol guess cap before after r → Bounded r
+  bounded (Err q) p = record { count = omega arith; start = omega arith; closing = omega arith; round = (added_fits q p).0; column = (added_fits q p).1 }
+  bounded (line_of_three count start closing) p =
       let h = p.passes refl in
       let m = h.most in
       let s = h.among in
@@ -67,10 +65,10 @@ module _ {a b : Patch} {tol : Tolerance} {guess : Parameters} {cap : ℕ} {befor
       record { count = omega (arith, m); start = omega (arith, m, s); closing = omega (arith, k); round = omega arith; column = omega arith }
 
 -- so a line has
-pub line_fits : {t : Traced} {count start closing : ℕ} → t ≡ traced.Line count start closing → Bounded t → (count < 4294967296) × ((start < 65536) × (closing < 256))
+pub line_fits : {t : TraceAnswer} {count start closing : ℕ} → t ≡ line_of_three count start closing → Bounded t → (count < 4294967296) × ((start < 65536) × (closing < 256))
 line_fits e h = let b = subst Bounded e h in (b.count, (b.start, b.closing))
 
-pub added_told : {t : Traced} {q : Refusal} → t ≡ traced.Refused q → Bounded t → (round_of q < 256) × (column_of q < 65536)
+pub added_told : {t : TraceAnswer} {q : Refusal} → t ≡ Err q → Bounded t → (round_of q < 256) × (column_of q < 65536)
 added_told e h = let b = subst Bounded e h in (b.round, b.column)
 
 -- the parts of a line's word
@@ -89,23 +87,23 @@ module _ (code start count : ℕ) (h : code < 256) where
     count_part : (code * 2 ^ 8 + start * 2 ^ 16 + count * 2 ^ 32) / 2 ^ 32 ≡ count
     count_part = omega (arith, h, k)
 
-line_number : (count start closing : ℕ) → number_in (traced_word (traced.Line count start closing)) ≡ 0
+line_number : (count start closing : ℕ) → number_in (traced_word (line_of_three count start closing)) ≡ 0
 unfolding traced_word
 line_number count start closing = let e : (closing * 256 + start * 65536 + count * 4294967296) % 256 ≡ 0 = omega arith in e
 
 -- the parts of a refusal's word
-refused_number : (q : Refusal) → number_in (traced_word (traced.Refused q)) ≡ number_of q
+refused_number : (q : Refusal) → number_in (traced_word (Err q)) ≡ number_of q
 unfolding traced_word
 refused_number q = let h = number_small q in let e : (number_of q + round_of q * 256 + column_of q * 65536) % 256 ≡ number_of q = omega (arith, h) in e
 
-refused_round : (q : Refusal) → round_of q < 256 → round_in (traced_word (traced.Refused q)) ≡ round_of q
+refused_round : (q : Refusal) → round_of q < 256 → round_in (traced_word (Err q)) ≡ round_of q
 unfolding traced_word
 refused_round q k =
     let h = number_small q in
     let e : (number_of q + round_of q * 256 + column_of q * 65536) / 256 ≡ round_of q + column_of q * 256 = omega (arith, h) in
     ap (λ (n : ℕ). n % 256) e ∙ (let f : (round_of q + column_of q * 256) % 256 ≡ round_of q = omega (arith, k) in f)
 
-refused_column : (q : Refusal) → round_of q < 256 → column_of q < 65536 → column_in (traced_word (traced.Refused q)) ≡ column_of q
+refused_column : (q : Refusal) → round_of q < 256 → column_of q < 65536 → column_in (traced_word (Err q)) ≡ column_of q
 unfolding traced_word
 refused_column q k l =
     let h = number_small q in
@@ -113,21 +111,21 @@ refused_column q k l =
     ap (λ (n : ℕ). n % 65536) e ∙ (let f : column_of q % 65536 ≡ column_of q = omega (arith, l) in f)
 
 -- a low byte of 0: nothing is refused, and the parts read out of the word are the answer's
-pub parts : (r : Traced) → Bounded r → number_in (traced_word r) ≡ 0
+pub parts : (r : TraceAnswer) → Bounded r → number_in (traced_word r) ≡ 0
     → (trace.refusal_of r ≡ 0) × (count_in (traced_word r) ≡ count_of r) × (start_in (traced_word r) ≡ start_of r) × (closing_in (traced_word r) ≡ closing_of r)
 unfolding traced_word
-parts (traced.Refused q) b z = absurd (unlike_zero q (let h = refused_number q in let e : number_of q % 256 ≡ 0 = omega (arith, h, z) in e))
-parts (traced.Line count start closing) b z =
+parts (Err q) b z = absurd (unlike_zero q (let h = refused_number q in let e : number_of q % 256 ≡ 0 = omega (arith, h, z) in e))
+parts (line_of_three count start closing) b z =
     (refl, count_part closing start count b.closing b.start, start_part closing start count b.closing b.start, code_part closing start count b.closing)
 
 -- two readings of the same bytes
 abbrev job_in : Job → JobRead → Job
-job_in d (Whole j) = j
-job_in d (Refused r) = d
+job_in d (Ok j) = j
+job_in d (Err r) = d
 
 -- so the line in the buffer passes with them
-module _ (bytes : List ℕ) (j : Job) (read : job_of bytes ≡ Whole j) (before after : List Float) where
-  read_back : (r : Traced) → TracePromise j.a j.b j.tol j.guess j.cap before after r → number_in (traced_word r) ≡ 0
+module _ (bytes : List ℕ) (j : Job) (read : job_of bytes ≡ Ok j) (before after : List Float) where
+  read_back : (r : TraceAnswer) → TracePromise j.a j.b j.tol j.guess j.cap before after r → number_in (traced_word r) ≡ 0
       → JobPasses bytes after (count_in (traced_word r)) (start_in (traced_word r)) (closing_in (traced_word r))
   read_back r p z =
       let q = parts r (bounded r p) z in
@@ -135,28 +133,28 @@ module _ (bytes : List ℕ) (j : Job) (read : job_of bytes ≡ Whole j) (before 
 
   -- a low byte of 9 or 21: the guess is unmet in the round and at the column read out of the word
   told : (refused : ℕ → ℕ → Refusal) → ((q : Refusal) (i col : ℕ) → number_of q ≡ number_of (refused i col) → q ≡ refused (round_of q) (column_of q))
-      → (r : Traced) → TracePromise j.a j.b j.tol j.guess j.cap before after r
-      → ((i col : ℕ) → r ≡ traced.Refused (refused i col) → GuessUnmet j.a j.b j.tol j.guess j.cap before (refused i col))
+      → (r : TraceAnswer) → TracePromise j.a j.b j.tol j.guess j.cap before after r
+      → ((i col : ℕ) → r ≡ Err (refused i col) → GuessUnmet j.a j.b j.tol j.guess j.cap before (refused i col))
       → number_in (traced_word r) ≡ number_of (refused (round_in (traced_word r)) (column_in (traced_word r)))
       → JobUnmet bytes before (refused (round_in (traced_word r)) (column_in (traced_word r)))
-  told refused by_number (traced.Refused q) p g z =
+  told refused by_number (Err q) p g z =
       let e = by_number q _ _ (sym (refused_number q) ∙ z) in
       let h = added_fits q p in
-      rw (refused_round q h.0, refused_column q h.0 h.1) (record { job = j; read = read; guess = g (round_of q) (column_of q) (ap traced.Refused e) })
-  told refused by_number (traced.Line count start closing) p g z =
-      let w = traced_word (traced.Line count start closing) in
+      rw (refused_round q h.0, refused_column q h.0 h.1) (record { job = j; read = read; guess = g (round_of q) (column_of q) (ap Err e) })
+  told refused by_number (line_of_three count start closing) p g z =
+      let w = traced_word (line_of_three count start closing) in
       let k = number_positive (refused (round_in w) (column_in w)) in
       let e = line_number count start closing in
       absurd (let y : ⊥ = omega (arith, k, e, z) in y)
 
   -- 9 has no column
-  columnless : (r : Traced) → TracePromise j.a j.b j.tol j.guess j.cap before after r → number_in (traced_word r) ≡ 9 → column_in (traced_word r) ≡ 0
-  columnless (traced.Refused q) p z =
+  columnless : (r : TraceAnswer) → TracePromise j.a j.b j.tol j.guess j.cap before after r → number_in (traced_word r) ≡ 9 → column_in (traced_word r) ≡ 0
+  columnless (Err q) p z =
       let h = added_fits q p in
       refused_column q h.0 h.1 ∙ ap column_of (told_unmet q 0 (sym (refused_number q) ∙ z))
-  columnless (traced.Line count start closing) p z = absurd (let e = line_number count start closing in let y : ⊥ = omega (arith, e, z) in y)
+  columnless (line_of_three count start closing) p z = absurd (let e = line_number count start closing in let y : ⊥ = omega (arith, e, z) in y)
 
-  pub traced_word_lem : {r : Traced} {w : ℕ} → TracePromise j.a j.b j.tol j.guess j.cap before after r → w ≡ traced_word r → TraceWord bytes before after w
+  pub traced_word_lem : {r : TraceAnswer} {w : ℕ} → TracePromise j.a j.b j.tol j.guess j.cap before after r → w ≡ traced_word r → TraceWord bytes before after w
   unfolding trace_answer
   traced_word_lem {r} p e =
       record {
@@ -183,9 +181,9 @@ module _ (bytes : List ℕ) (j : Job) (read : job_of bytes ≡ Whole j) (before 
       why q u = meet_unmet u.job.a u.job.b u.job.guess u.job.tol q u.guess.meeting
 
 -- a job that can't be read
-module _ (bytes : List ℕ) {r : Refusal} (e : job_of bytes ≡ Refused r) where
-  unlike_whole : {j : Job} → job_of bytes ≡ Whole j → ⊥
-  unlike_whole {j} q = let same : Whole j ≡ Refused r = sym q ∙ e in let z : ◌≡◌ {A = ℕ} 0 1 = cc in omega arith
+module _ (bytes : List ℕ) {r : Refusal} (e : job_of bytes ≡ Err r) where
+  unlike_whole : {j : Job} → job_of bytes ≡ Ok j → ⊥
+  unlike_whole {j} q = let same : Ok j ≡ Err r = sym q ∙ e in let z : ◌≡◌ {A = ℕ} 0 1 = cc in omega arith
 
   pub traced_unread : (t : List Float) {w : ℕ} → w ≡ number_of r → TraceWord bytes t t w
   unfolding trace_answer
@@ -209,7 +207,7 @@ pub index_told : {a b : Patch} {tol : Tolerance} {l : List Float} (count start c
 index_told {a} {b} {tol} {l} count start code p = let h = check_index a b tol l count start code in rw p.answer (omega (arith, h))
 
 -- so a refusal has
-pub refusal_fits : {s : Verdict} {r : Refusal} → s ≡ checked.Refused r → verdict.index_in s < 4294967296 → index_of r < 4294967296
+pub refusal_fits : {s : Verdict} {r : Refusal} → s ≡ Err r → verdict.index_in s < 4294967296 → index_of r < 4294967296
 refusal_fits e h = subst (λ (t : Verdict). verdict.index_in t < 4294967296) e h
 
 word_passed : (s : Verdict) → checked_word s ≡ 0 → verdict.refusal_of s ≡ 0
@@ -218,11 +216,11 @@ word_passed s e = omega (arith, e)
 
 passed_word : (s : Verdict) → verdict.refusal_of s ≡ 0 → checked_word s ≡ 0
 unfolding checked_word
-passed_word checked.Passed e = refl
-passed_word (checked.Refused r) e = let h = number_positive r in absurd (omega (arith, h, e))
+passed_word (Ok u) e = refl
+passed_word (Err r) e = let h = number_positive r in absurd (omega (arith, h, e))
 
 module _ (bytes : List ℕ) (l : List Float) (count start code : ℕ) where
-  pub checked_word_lem : {j : Job} {s : Verdict} {w : ℕ} → job_of bytes ≡ Whole j → CheckPromise j.a j.b j.tol l count start code s → w ≡ checked_word s
+  pub checked_word_lem : {j : Job} {s : Verdict} {w : ℕ} → job_of bytes ≡ Ok j → CheckPromise j.a j.b j.tol l count start code s → w ≡ checked_word s
       → CheckWord bytes l count start code w
   unfolding check_answer
   checked_word_lem {j} {s} e p f =
@@ -234,7 +232,7 @@ module _ (bytes : List ℕ) (l : List Float) (count start code : ℕ) where
             f ∙ passed_word s (p.complete (subst (λ (i : Job). Passes i.a i.b i.tol l count start code) same q));
       }
 
-  pub checked_unread : {r : Refusal} {w : ℕ} → job_of bytes ≡ Refused r → w ≡ number_of r → CheckWord bytes l count start code w
+  pub checked_unread : {r : Refusal} {w : ℕ} → job_of bytes ≡ Err r → w ≡ number_of r → CheckWord bytes l count start code w
   unfolding check_answer
   checked_unread {r} e f =
       record {

@@ -7,7 +7,7 @@ use Rattle.refusal.specs.Refusal.{number_of}
 use Rattle.refusal.specs.declared.Refusal.TheVariants.{Lent}
 use Rattle.geometry.specs.Point.{point_of}
 use Rattle.geometry.specs.declared.point.Point3D.{Point3D}
-use Rattle.boxes.specs.declared.crossing.Crossed.{Crossed}
+use Rattle.boxes.specs.Crossing.{Crossed}
 use Rattle.boxes.specs.Crossing.{refusal_of, crossed_of, crossing_of}
 
 -- the refusal's number + 2^8 if the trace is crossed (include/geomcore.h)

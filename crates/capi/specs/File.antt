@@ -1,17 +1,15 @@
 -- The words of the trace file's writer and reader, version 1. Definitions only.
-use Rattle.std.specs.Prelude.{◌≡◌, List, ℕ, ◌+◌, ◌*◌, ◌^◌, ◌≤◌, leb, length, take, Float}
+use Rattle.std.specs.Prelude.{◌≡◌, List, ℕ, ◌+◌, ◌*◌, ◌^◌, ◌≤◌, leb, length, take, Float, Ok}
 use Rattle.loops.specs.Loop.{pick}
 use Rattle.loops.specs.Over.{written}
 use Rattle.wire.specs.Wire.{AllBytes}
 use Rattle.refusal.specs.declared.Refusal.TheVariants as refusal
 use Rattle.refusal.specs.Refusal.{number_of}
 use Rattle.geometry.specs.declared.tolerance.Tolerance.{Tolerance}
-use Rattle.groups.specs.declared.traced.Traced.TheVariants.{Line}
 use Rattle.groups.specs.Traced.{Outcome, outcome}
 use Rattle.patch.specs.declared.patch.Patch.{Patch}
 use Rattle.certificate.specs.Passes.{Passes}
-use Rattle.trace_file.specs.declared.write.Written.{Written}
-use Rattle.trace_file.specs.declared.write.Written.TheVariants.{Bytes}
+use Rattle.trace_file.specs.Write.{Written}
 use Rattle.trace_file.specs.Layout.{file_bytes, version1, width1}
 use Rattle.trace_file.specs.Write.{Filed, filed, refusal_of, bytes_of, write_of}
 use Rattle.trace_file.specs.Read.{read_of}
@@ -36,7 +34,7 @@ pub record WriteWord (l : List Float) (count start code : ℕ) (before after : L
   pub file : after ≡ (write_v1 l count start code before).file
   -- a low byte of 0: as many bytes as the word says, read into room enough, give the trace back
   pub reads_back : number_in w ≡ 0 → (t : List Float) → width1 * count ≤ length t
-      → read_v1 (take (bytes_in w) after) t ≡ outcome (Line count start code) (written (take (width1 * count) l) t)
+      → read_v1 (take (bytes_in w) after) t ≡ outcome (line_of_three count start code) (written (take (width1 * count) l) t)
   -- a trace that passes the check is written where there is room, and refused by 8 where there is not
   pub passing : (a b : Patch) (tol : Tolerance) → Passes a b tol l count start code → number_in w ≡ pick (leb (file_bytes width1 count) (length before)) 0 (number_of refusal.Lent)
 
@@ -46,6 +44,6 @@ pub record ReadWord (file : List ℕ) (before after : List Float) (w : ℕ) : Ty
   pub buffer : after ≡ (read_v1 file before).buffer
   -- a low byte of 0: written again with the count, start and code read out of the word, the trace gives that file
   pub writes_back : number_in w ≡ 0 → (t : List ℕ) → length file ≤ length t
-      → write_v1 after (count_in w) (start_in w) (closing_in w) t ≡ filed (Bytes (length file)) (written file t)
+      → write_v1 after (count_in w) (start_in w) (closing_in w) t ≡ filed (Ok (length file)) (written file t)
   -- and no other file reads as the same trace
   pub only : number_in w ≡ 0 → (other : List ℕ) → AllBytes other → read_v1 other before ≡ read_v1 file before → other ≡ file

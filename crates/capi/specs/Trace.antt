@@ -1,28 +1,26 @@
 -- The trace's word and the lent numbers after it. Definitions only.
-use Rattle.std.specs.Prelude.{◌≡◌, List, ℕ, ◌+◌, ◌*◌, ◌^◌, ◌≤◌, ◌<◌, Float}
+use Rattle.std.specs.Prelude.{◌≡◌, List, ℕ, ◌+◌, ◌*◌, ◌^◌, ◌≤◌, ◌<◌, Float, Ok, Err}
 use Rattle.refusal.specs.declared.Refusal.{Refusal}
 use Rattle.refusal.specs.declared.Refusal.TheVariants as variant
 use Rattle.refusal.specs.Refusal.{number_of}
 use Rattle.refusal.specs.Refusal as refusal
-use Rattle.groups.specs.declared.traced.Traced.{Traced}
-use Rattle.groups.specs.declared.traced.Traced.TheVariants.{Line, Refused}
+use Rattle.groups.specs.Traced.{TraceAnswer}
 use Rattle.groups.specs.Traced.{Outcome, count_of, start_of, round_of, column_of, closing_of}
 use Rattle.meeting.specs.Newton.{most_rounds}
 use Rattle.walk.specs.Trace.{trace_of}
-use Rattle.job.specs.declared.file.JobRead.{JobRead}
-use Rattle.job.specs.declared.file.JobRead.TheVariants as read
+use Rattle.job.specs.File.{JobRead}
 use Rattle.job.specs.File.{job_of}
 use Rattle.passing.specs.Promises.{JobPasses, JobUnmet}
 use Rattle.capi.specs.Answer.{Answer, answered, number_in, closing_in, round_in, start_in, column_in, count_in}
 
 -- of a line 2^8 times the closing code + 2^16 times the start's index + 2^32 times the count; of a refusal its number + 2^8 times the Newton round that 9
 -- and 21 add + 2^16 times the column that 21 adds (include/geomcore.h)
-unfoldable pub traced_word : Traced → ℕ
-traced_word (Line count start closing) = closing * 2 ^ 8 + start * 2 ^ 16 + count * 2 ^ 32
-traced_word (Refused r) = number_of r + refusal.round_of r * 2 ^ 8 + refusal.column_of r * 2 ^ 16
+unfoldable pub traced_word : TraceAnswer → ℕ
+traced_word (line_of_three count start closing) = closing * 2 ^ 8 + start * 2 ^ 16 + count * 2 ^ 32
+traced_word (Err r) = number_of r + refusal.round_of r * 2 ^ 8 + refusal.column_of r * 2 ^ 16
 
 -- each part of an answer has room in its place of the word
-pub record Bounded (t : Traced) : Type 0 where
+pub record Bounded (t : TraceAnswer) : Type 0 where
   pub count : count_of t < 2 ^ 32
   pub start : start_of t < 2 ^ 16
   pub closing : closing_of t < 2 ^ 8
@@ -35,8 +33,8 @@ outcome_answer o = answered (traced_word o.answer) o.buffer
 
 -- 19, or the walk of the job that was read
 abbrev pub trace_after_reading : JobRead → List Float → Answer
-trace_after_reading (read.Refused r) t = answered (number_of r) t
-trace_after_reading (read.Whole j) t = outcome_answer (trace_of j.a j.b j.tol j.guess j.cap t)
+trace_after_reading (Err r) t = answered (number_of r) t
+trace_after_reading (Ok j) t = outcome_answer (trace_of j.a j.b j.tol j.guess j.cap t)
 
 -- by the 347 bytes of a job file; the lent buffer may have any length
 unfoldable pub trace_answer : List ℕ → List Float → Answer
@@ -52,7 +50,7 @@ pub record TraceWord (bytes : List ℕ) (before after : List Float) (w : ℕ) : 
   -- where it refuses, the word is no other
   pub unmet : number_in w ≡ number_of (variant.NoMeeting (round_in w)) → JobUnmet bytes before (variant.NoMeeting (round_in w))
   pub singular : number_in w ≡ number_of (variant.Singular (round_in w) (column_in w)) → JobUnmet bytes before (variant.Singular (round_in w) (column_in w))
-  pub handed_on : (q : Refusal) → JobUnmet bytes before q → w ≡ traced_word (Refused q)
+  pub handed_on : (q : Refusal) → JobUnmet bytes before q → w ≡ traced_word (Err q)
   -- the round is at most 32 beside 9 and at most 31 beside 21
   pub rounds :
       (number_in w ≡ number_of (variant.NoMeeting (round_in w)) → round_in w ≤ most_rounds)

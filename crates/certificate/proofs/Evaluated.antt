@@ -1,4 +1,5 @@
 -- The definitions compute: one trace at every limit passes, and what a small change of it is refused for.
+use Rattle.std.specs.Prelude.{Ok, Err}
 use mathlib.Core.Path.{◌≡◌, refl}
 use mathlib.Core.Bool.{Bool, true, false, ◌&&◌}
 use mathlib.Core.List.{List, [], ◌∷◌}
@@ -25,8 +26,7 @@ use Rattle.patch.specs.declared.patch.Patch.{Patch}
 use Rattle.patch.specs.declared.patch.Window.{Window}
 use Rattle.patch.specs.Patch.{vector_fit, frame_fit, numbers_fit, sizes_fit, window_fit, mark_fit, u_is_angle, v_is_angle, fitness_of, window_holds, inside_of}
 use Rattle.patch.specs.Pair.{pair_fitness}
-use Rattle.refusal.specs.declared.Verdict.{Verdict}
-use Rattle.refusal.specs.declared.Verdict.TheVariants.{Passed, Refused}
+use Rattle.refusal.specs.Verdict.{Verdict}
 use Rattle.certificate.specs.Passes.{Passes}
 use Rattle.certificate.specs.Check.{same_numbers, finite_point, own_of, chord_fits, point_verdict, points_verdict, closing_so, claim_so, check_of}
 use Rattle.number.proofs.Binary64.{Binary64}
@@ -77,40 +77,40 @@ abbrev checked : Float → List Float → ℕ → ℕ → ℕ → Verdict
 checked h l count start closing = check_of plane_a (plane_b h) tol l count start closing
 
 -- gaps of confusion itself, chords of 0.2 itself, and a closing chord of 0.4 pass
-pub at_the_limits : checked confusion (line fifth (bits 0) fifth fifth) 4 0 1 ≡ Passed
+pub at_the_limits : checked confusion (line fifth (bits 0) fifth fifth) 4 0 1 ≡ Ok tt
 unfolding computing
 at_the_limits = refl
 
 -- called open, its last chord is tested
-pub open_chord : checked confusion (line fifth (bits 0) fifth fifth) 4 0 0 ≡ Refused (refusal.Chord 3)
+pub open_chord : checked confusion (line fifth (bits 0) fifth fifth) 4 0 0 ≡ Err (refusal.Chord 3)
 unfolding computing
 open_chord = refl
 
 -- the next number above confusion is too wide a gap
-pub wide_gap : checked (bits 0x3eb0_0000_0000_0001) (line fifth (bits 0) fifth fifth) 4 0 1 ≡ Refused (refusal.Gap 0)
+pub wide_gap : checked (bits 0x3eb0_0000_0000_0001) (line fifth (bits 0) fifth fifth) 4 0 1 ≡ Err (refusal.Gap 0)
 unfolding computing
 wide_gap = refl
 
 -- a NaN is outside, and 14 comes before 13
-pub nan_outside : checked confusion (line fifth (bits 0) fifth nan) 4 0 1 ≡ Refused (refusal.OutsideWindow 1)
+pub nan_outside : checked confusion (line fifth (bits 0) fifth nan) 4 0 1 ≡ Err (refusal.OutsideWindow 1)
 unfolding computing
 nan_outside = refl
 
-pub outside_first : checked confusion (line nan (bits 0) (bits 0x4000_0000_0000_0000) fifth) 4 0 1 ≡ Refused (refusal.OutsideWindow 1)
+pub outside_first : checked confusion (line nan (bits 0) (bits 0x4000_0000_0000_0000) fifth) 4 0 1 ≡ Err (refusal.OutsideWindow 1)
 unfolding computing
 outside_first = refl
 
 -- a zero of the other sign is not A's own
-pub other_zero : checked confusion (line fifth (bits 0x8000_0000_0000_0000) fifth fifth) 4 0 1 ≡ Refused (refusal.NotOwnPoint 1)
+pub other_zero : checked confusion (line fifth (bits 0x8000_0000_0000_0000) fifth fifth) 4 0 1 ≡ Err (refusal.NotOwnPoint 1)
 unfolding computing
 other_zero = refl
 
 -- 8 comes before 12, also where 7 times the count is no machine word; then 12
-pub lent_first : checked confusion (line fifth (bits 0) fifth fifth) (2 ^ 63) (2 ^ 63) 3 ≡ Refused refusal.Lent
+pub lent_first : checked confusion (line fifth (bits 0) fifth fifth) (2 ^ 63) (2 ^ 63) 3 ≡ Err refusal.Lent
 unfolding computing
 lent_first = refl
 
-pub no_start_of_a_closing : checked confusion (line fifth (bits 0) fifth fifth) 4 1 1 ≡ Refused refusal.Claim
+pub no_start_of_a_closing : checked confusion (line fifth (bits 0) fifth fifth) 4 1 1 ≡ Err refusal.Claim
 unfolding computing
 no_start_of_a_closing = refl
 

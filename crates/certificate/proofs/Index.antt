@@ -1,4 +1,5 @@
 -- The index that a refusal of the check names is below the count claimed, and so within 01's 4001 points; a closing code is at most 2.
+use Rattle.std.specs.Prelude.{Ok, Err}
 use mathlib.Core.Path.{◌≡◌}
 use mathlib.Core.Bool.{true}
 use mathlib.Core.List.{List}
@@ -11,8 +12,7 @@ use Rattle.groups.specs.declared.row.Row.{Row}
 use Rattle.groups.specs.Groups.{width, most_points, holds_of}
 use Rattle.groups.specs.Row.{point_in, row_of}
 use Rattle.refusal.specs.declared.Refusal.TheVariants as refusal
-use Rattle.refusal.specs.declared.Verdict.{Verdict}
-use Rattle.refusal.specs.declared.Verdict.TheVariants.{Passed, Refused}
+use Rattle.refusal.specs.Verdict.{Verdict}
 use Rattle.refusal.specs.Verdict.{index_in}
 use Rattle.refusal.proofs.Order.{asked_held, first_each, Below, asked_below}
 use Rattle.geometry.specs.declared.tolerance.Tolerance.{Tolerance}
@@ -50,8 +50,8 @@ points_below a b confusion rows count closing =
     (λ s p. omega arith) (omega arith) tt tt
   where
     go : (i : ℕ) (v : Verdict) → i < count → Below i v → Kept (λ (s : Unit {0}). Unit {0}) (Below count) (stopped v)
-    go i Passed h b = tt
-    go i (Refused r) h b = omega (arith, h, b)
+    go i (Ok u) h b = tt
+    go i (Err r) h b = omega (arith, h, b)
 
 pub check_index : (a b : Patch) (tol : Tolerance) (l : List Float) (count start closing : ℕ) → index_in (check_of a b tol l count start closing) ≤ most_points
 unfolding check_of

@@ -1,4 +1,5 @@
 -- One iteration of each of the check's loops, as the functions' proofs cite it.
+use Rattle.std.specs.Prelude.{Ok, Err}
 use mathlib.Core.Path.{◌≡◌, refl, sym, ap, ◌∙◌}
 use mathlib.Core.Bool.{Bool, true, false, not, ◌&&◌}
 use mathlib.Core.List.{List, []}
@@ -11,8 +12,7 @@ use borrow.Author.Tests.{not-false, not-true}
 use Rattle.loops.specs.Loop.{on, out}
 use Rattle.number.specs.Helpers.{same_bits}
 use Rattle.refusal.specs.declared.Refusal.{Refusal}
-use Rattle.refusal.specs.declared.Verdict.{Verdict}
-use Rattle.refusal.specs.declared.Verdict.TheVariants.{Passed, Refused}
+use Rattle.refusal.specs.Verdict.{Verdict}
 use Rattle.groups.specs.declared.row.Row.{Row}
 use Rattle.groups.specs.Groups.{width}
 use Rattle.groups.specs.Row.{numbers_of}
@@ -24,10 +24,10 @@ use Rattle.certificate.specs.Check.{is_own, point_verdict, point_body, same_numb
 module _ (a b : Patch) (confusion : Float) (rows : ℕ → Row) (count closing i : ℕ) {before r : Row} {s : Verdict} where
   module _ (p : before ≡ rows (i - 1)) (q : r ≡ rows i) (e : s ≡ point_verdict (is_own a) a b confusion before r count closing i) where
     -- a refusal ends the loop, and it goes on from a point that passes
-    pub point_out : {t : Refusal} → s ≡ Refused t → point_body (is_own a) a b confusion rows count closing i tt ≡ out (Refused t)
+    pub point_out : {t : Refusal} → s ≡ Err t → point_body (is_own a) a b confusion rows count closing i tt ≡ out (Err t)
     point_out f = rw (← p, ← q, ← e, f)
 
-    pub point_on_lem : s ≡ Passed → point_body (is_own a) a b confusion rows count closing i tt ≡ on tt
+    pub point_on_lem : s ≡ Ok tt → point_body (is_own a) a b confusion rows count closing i tt ≡ on tt
     point_on_lem f = rw (← p, ← q, ← e, f)
 
 -- the row read is the one before the next

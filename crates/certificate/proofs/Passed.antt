@@ -1,4 +1,5 @@
 -- The check's answer is passed exactly when `Passes` holds.
+use Rattle.std.specs.Prelude.{Ok, Err}
 use mathlib.Core.Path.{◌≡◌, refl, sym, ap, ◌∙◌, subst}
 use mathlib.Core.Bool.{true, false, ◌&&◌}
 use mathlib.Core.List.{List}
@@ -21,8 +22,7 @@ use Rattle.groups.specs.Groups.{width, least_points, most_points, count_fits, ho
 use Rattle.groups.specs.Row.{numbers_of, point_in, row_of}
 use Rattle.groups.proofs.Groups.{both, holds_length, count_fits_lem, fits_count}
 use Rattle.refusal.specs.declared.Refusal.TheVariants as refusal
-use Rattle.refusal.specs.declared.Verdict.{Verdict}
-use Rattle.refusal.specs.declared.Verdict.TheVariants.{Passed, Refused}
+use Rattle.refusal.specs.Verdict.{Verdict}
 use Rattle.refusal.proofs.Order.{unpassed, asked_held, first_passed}
 use Rattle.geometry.specs.declared.tolerance.Tolerance.{Tolerance}
 use Rattle.geometry.specs.Point.{distance_of, longest_chord}
@@ -79,7 +79,7 @@ module _ (a b : Patch) (tol : Tolerance) (before r : Row) (count closing i : ℕ
       (equal_point (point_in r) q p.own)
 
   -- what a passed point says, and what makes it pass
-  point_passes : AllFit (numbers_of r) → point_verdict (is_own a) a b tol.confusion before r count closing i ≡ Passed → PointPasses a b tol r × Chord
+  point_passes : AllFit (numbers_of r) → point_verdict (is_own a) a b tol.confusion before r count closing i ≡ Ok tt → PointPasses a b tol r × Chord
   unfolding point_verdict
   point_passes d e =
       let x = parameters_in r in
@@ -89,7 +89,7 @@ module _ (a b : Patch) (tol : Tolerance) (before r : Row) (count closing i : ℕ
       let g = asked_held (distance_of (point_a a x) (point_b b x) ≤? tol.confusion) (refusal.Gap i) s.1.1.0 in
       (own_of_lem d (passes _ n) (passes _ o) (passes _ g), chord_tested (asked_held (chord_fits before r count closing i) (refusal.Chord i) s.1.1.1.0))
 
-  passes_point : PointPasses a b tol r → Chord → point_verdict (is_own a) a b tol.confusion before r count closing i ≡ Passed
+  passes_point : PointPasses a b tol r → Chord → point_verdict (is_own a) a b tol.confusion before r count closing i ≡ Ok tt
   unfolding point_verdict
   passes_point p k =
       let x = parameters_in r in
@@ -105,31 +105,31 @@ module _ (a b : Patch) (tol : Tolerance) (rows : ℕ → Row) (count closing : �
   verdict i = point_verdict (is_own a) a b tol.confusion (rows (i - 1)) (rows i) count closing i
 
   -- it passes only where each point does
-  each_passed : (k i : ℕ) → count - i ≡ k → from i (on tt) ≡ Passed → (j : ℕ) → i ≤ j → j < count → verdict j ≡ Passed
+  each_passed : (k i : ℕ) → count - i ≡ k → from i (on tt) ≡ Ok tt → (j : ℕ) → i ≤ j → j < count → verdict j ≡ Ok tt
   each_passed zero i e p j h n = absurd (omega arith)
   each_passed (suc k) i e p j h n = go (verdict i) refl (λ q d. each_passed k (i + 1) (omega arith) q j (omega arith) n)
     where
       -- the search from i on goes on from the verdict of point i
-      next : {s : Verdict} → verdict i ≡ s → from (i + 1) (stopped s) ≡ Passed
+      next : {s : Verdict} → verdict i ≡ s → from (i + 1) (stopped s) ≡ Ok tt
       next q = ap (from (i + 1)) (ap stopped (sym q)) ∙ sym (searched_step _ all_passed i count tt (omega arith)) ∙ p
 
-      go : (s : Verdict) → verdict i ≡ s → (from (i + 1) (on tt) ≡ Passed → (i ≡ j → ⊥) → verdict j ≡ Passed) → verdict j ≡ Passed
-      go (Refused r) q f = absurd (unpassed (sym (searched_out _ all_passed (i + 1) count (Refused r)) ∙ next q))
-      go Passed q f = cases (eqb i j) (λ w. subst (λ (m : ℕ). verdict m ≡ Passed) (eqb-true i j w) q) (λ w. f (next q) (eqb-false i j w))
+      go : (s : Verdict) → verdict i ≡ s → (from (i + 1) (on tt) ≡ Ok tt → (i ≡ j → ⊥) → verdict j ≡ Ok tt) → verdict j ≡ Ok tt
+      go (Err r) q f = absurd (unpassed (sym (searched_out _ all_passed (i + 1) count (Err r)) ∙ next q))
+      go (Ok u) q f = cases (eqb i j) (λ w. subst (λ (m : ℕ). verdict m ≡ Ok tt) (eqb-true i j w) q) (λ w. f (next q) (eqb-false i j w))
 
-  all_passed_lem : (k i : ℕ) → count - i ≡ k → ((j : ℕ) → i ≤ j → j < count → verdict j ≡ Passed) → from i (on tt) ≡ Passed
+  all_passed_lem : (k i : ℕ) → count - i ≡ k → ((j : ℕ) → i ≤ j → j < count → verdict j ≡ Ok tt) → from i (on tt) ≡ Ok tt
   all_passed_lem zero i e f = searched_end _ all_passed i count tt (omega arith)
   all_passed_lem (suc k) i e f =
       searched_step _ all_passed i count tt (omega arith) ∙ ap (from (i + 1)) (ap stopped (f i (omega arith) (omega arith)))
       ∙ all_passed_lem k (i + 1) (omega arith) (λ j h n. f j (omega arith) n)
 
-  points_pass : ((i : ℕ) → i < count → AllFit (numbers_of (rows i))) → points_verdict (is_own a) a b tol.confusion rows count closing ≡ Passed
+  points_pass : ((i : ℕ) → i < count → AllFit (numbers_of (rows i))) → points_verdict (is_own a) a b tol.confusion rows count closing ≡ Ok tt
       → (i : ℕ) → i < count → PointPasses a b tol (rows i) × Chord a b tol (rows (i - 1)) (rows i) count closing i
   unfolding points_verdict
   points_pass d e i h = point_passes a b tol (rows (i - 1)) (rows i) count closing i (d i h) (each_passed count 0 (omega arith) e i (omega arith) h)
 
   pass_points : ((i : ℕ) → i < count → PointPasses a b tol (rows i)) → ((i : ℕ) → i < count → Chord a b tol (rows (i - 1)) (rows i) count closing i)
-      → points_verdict (is_own a) a b tol.confusion rows count closing ≡ Passed
+      → points_verdict (is_own a) a b tol.confusion rows count closing ≡ Ok tt
   unfolding points_verdict
   pass_points p k = all_passed_lem count 0 (omega arith) (λ j z h. passes_point a b tol (rows (j - 1)) (rows j) count closing j (p j h) (k j h))
 
@@ -178,7 +178,7 @@ module _ (rows : ℕ → Row) (count start closing : ℕ) where
 
 module _ (a b : Patch) (tol : Tolerance) (l : List Float) (count start closing : ℕ) where
   -- STATEMENT 2, one way: what passes the check has every one of the mission's conditions. The numbers of the list are binary64, as those of every lent list are.
-  pub checked_passes : Binary64 l → check_of a b tol l count start closing ≡ Passed → Passes a b tol l count start closing
+  pub checked_passes : Binary64 l → check_of a b tol l count start closing ≡ Ok tt → Passes a b tol l count start closing
   unfolding check_of
   checked_passes d e =
       let s = first_passed (check_tests a b tol l count start closing) e in
@@ -201,7 +201,7 @@ module _ (a b : Patch) (tol : Tolerance) (l : List Float) (count start closing :
       }
 
   -- and the other: where the conditions hold the check says passed
-  pub passes_checked : Passes a b tol l count start closing → check_of a b tol l count start closing ≡ Passed
+  pub passes_checked : Passes a b tol l count start closing → check_of a b tol l count start closing ≡ Ok tt
   unfolding check_of claim_so holds_of
   passes_checked p =
       let c = closed_is (row_of l) count start closing p.closed in

@@ -1,5 +1,5 @@
 -- The public check, in 01's order of tests. Definitions only.
-use Rattle.std.specs.Prelude.{Bool, true, false, ◌&&◌, List, [], ◌∷◌, ℕ, ◌-◌, eqb, ltb, leb, Float}
+use Rattle.std.specs.Prelude.{Bool, true, false, ◌&&◌, List, [], ◌∷◌, ℕ, ◌-◌, eqb, ltb, leb, Float, Ok, Err}
 use Rattle.std.specs.Float.Ieee.Scale.{finite}
 use Rattle.loops.specs.Loop.{pick, Flow, on, out, searched}
 use Rattle.number.specs.Operators.{◌≤?◌}
@@ -8,8 +8,7 @@ use Rattle.groups.specs.declared.row.Row.{Row}
 use Rattle.groups.specs.Groups.{width, count_fits, holds_of}
 use Rattle.groups.specs.Row.{numbers_of, point_in, row_of}
 use Rattle.refusal.specs.declared.Refusal.TheVariants as refusal
-use Rattle.refusal.specs.declared.Verdict.{Verdict}
-use Rattle.refusal.specs.declared.Verdict.TheVariants.{Passed, Refused}
+use Rattle.refusal.specs.Verdict.{Verdict}
 use Rattle.refusal.specs.Verdict.{asked, first_refusal}
 use Rattle.geometry.specs.declared.point.Point3D.{Point3D}
 use Rattle.geometry.specs.declared.tolerance.Tolerance.{Tolerance}
@@ -73,8 +72,8 @@ point_verdict own a b confusion before r count closing i = first_refusal (point_
 
 -- the first refusal ends the loop over the points
 abbrev pub stopped : Verdict → Flow (Unit {0}) Verdict
-stopped (Refused r) = out (Refused r)
-stopped Passed = on tt
+stopped (Err r) = out (Err r)
+stopped (Ok u) = on tt
 
 -- one iteration of it
 abbrev pub point_body : (Row → Bool) → Patch → Patch → Float → (ℕ → Row) → ℕ → ℕ → ℕ → Unit {0} → Flow (Unit {0}) Verdict
@@ -82,7 +81,7 @@ point_body own a b confusion rows count closing i s = stopped (point_verdict own
 
 -- no point was refused
 abbrev pub all_passed : Unit {0} → Verdict
-all_passed s = Passed
+all_passed s = Ok tt
 
 -- all points, from 0 on
 unfoldable pub points_verdict : (Row → Bool) → Patch → Patch → Float → (ℕ → Row) → ℕ → ℕ → Verdict

@@ -1,5 +1,5 @@
 -- What it means that a trace passes: the mission's conditions, one by one. Definitions only.
-use Rattle.std.specs.Prelude.{◌≡◌, Bool, false, ◌&&◌, List, ℕ, ◌-◌, ◌*◌, ◌≤◌, ◌<◌, T, eqb, length, Float}
+use Rattle.std.specs.Prelude.{◌≡◌, Bool, false, ◌&&◌, List, ℕ, ◌-◌, ◌*◌, ◌≤◌, ◌<◌, T, eqb, length, Float, Ok}
 use Rattle.std.specs.Float.Ieee.Scale.{finite}
 use Rattle.loops.specs.Loop.{pick}
 use Rattle.number.specs.Operators.{◌≤?◌}
@@ -11,7 +11,6 @@ use Rattle.geometry.specs.Point.{distance_of, longest_chord}
 use Rattle.geometry.specs.Tolerance.{tolerance_fit}
 use Rattle.patch.specs.declared.patch.Patch.{Patch}
 use Rattle.patch.specs.declared.patch.Parameters.{Parameters}
-use Rattle.refusal.specs.declared.Verdict.TheVariants.{Passed}
 use Rattle.patch.specs.Located.{point_a, point_b}
 use Rattle.patch.specs.Patch.{fitness_of, inside_of}
 
@@ -48,8 +47,8 @@ pub data ClosedAs (rows : ℕ → Row) (count start closing : ℕ) : Type 0 wher
 -- the trace of `count` points at the head of the list l passes
 pub record Passes (a b : Patch) (tol : Tolerance) (l : List Float) (count start closing : ℕ) : Type 0 where
   -- surfaces and tolerance are fit ("when 1 to 5 let them through")
-  pub fit_a : fitness_of a ≡ Passed
-  pub fit_b : fitness_of b ≡ Passed
+  pub fit_a : fitness_of a ≡ Ok tt
+  pub fit_b : fitness_of b ≡ Ok tt
   pub tolerance : T (tolerance_fit tol)
   -- all its numbers are lent
   pub lent : width * count ≤ length l

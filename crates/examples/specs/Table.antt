@@ -1,5 +1,5 @@
 -- The rows of the paper's charted examples marked (P), each a field whose comment is the paper's sentence. Definitions only.
-use Rattle.std.specs.Prelude.{◌≡◌, List, [], ◌∷◌, ◌++◌, ℕ, ◌-◌, false, negsuc, replicate, Float}
+use Rattle.std.specs.Prelude.{◌≡◌, List, [], ◌∷◌, ◌++◌, ℕ, ◌-◌, false, negsuc, replicate, Float, Ok}
 use Prim.Native.Nat as nat
 use Rattle.std.specs.Float.{fin, binary64}
 use Rattle.std.specs.Float.Ieee.{to_bits}
@@ -13,7 +13,6 @@ use Rattle.patch.specs.declared.patch.Parameters.{Parameters}
 use Rattle.marching.specs.declared.leaving.Exit.TheVariants as exit
 use Rattle.marching.specs.Leaving.{leaving_of}
 use Rattle.boxes.specs.declared.boxtree.Aabb.{Aabb}
-use Rattle.boxes.specs.declared.crossing.Crossed.TheVariants as crossed
 use Rattle.boxes.specs.Crossing.{crossing_of}
 use Rattle.geometry.specs.declared.vector.Vector3D.{Vector3D}
 use Rattle.geometry.specs.declared.frame.Frame3D.{Frame3D}
@@ -165,9 +164,9 @@ pub record Table : Type 0 where
   -- crossed, (0.15, 0.01, 0) is not."
   pub row8 :
       ((p : ℕ → ℕ → Float) (t : Float)
-      → crossing_of (confusion20 t) (four_points p) 4 (box_at (bits 0x3fc3_3333_3333_3333) (bits 0x3f74_7ae1_47ae_147b) positive_zero) ≡ crossed.Yes)
+      → crossing_of (confusion20 t) (four_points p) 4 (box_at (bits 0x3fc3_3333_3333_3333) (bits 0x3f74_7ae1_47ae_147b) positive_zero) ≡ (Ok true))
       × ((p : ℕ → ℕ → Float) (t : Float)
-      → crossing_of (confusion20 t) (four_points p) 4 (box_at (bits 0x3fc3_3333_3333_3333) (bits 0x3f84_7ae1_47ae_147b) positive_zero) ≡ crossed.No)
+      → crossing_of (confusion20 t) (four_points p) 4 (box_at (bits 0x3fc3_3333_3333_3333) (bits 0x3f84_7ae1_47ae_147b) positive_zero) ≡ (Ok false))
   -- "A and B the same unit-frame plane, windows -1 to 1, no marks, default tolerance, cap 2, 35 numbers lent, guess all 0: 10. B's origin
   -- moved to z = 1": 02, A2: "the new number, in round 0"; A3: at column 2 (and the 35 numbers are positive zero afterwards)
   pub row9 :

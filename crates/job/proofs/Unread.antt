@@ -1,4 +1,5 @@
 -- Bytes that are no job file are refused with 19 and nothing else.
+use Rattle.std.specs.Prelude.{Ok, Err}
 use mathlib.Core.Path.{◌≡◌, refl, subst}
 use mathlib.Core.Bool.{Bool, true, false}
 use mathlib.Core.List.{List}
@@ -10,33 +11,31 @@ use Rattle.wire.specs.Wire.{byte_at, four_at}
 use Rattle.refusal.specs.declared.Refusal.{Refusal}
 use Rattle.refusal.specs.declared.Refusal.TheVariants.{JobFile}
 use Rattle.patch.specs.declared.patch.Patch.{Patch}
-use Rattle.job.specs.declared.file.SurfaceRead.{SurfaceRead}
-use Rattle.job.specs.declared.file.SurfaceRead.TheVariants as surface
-use Rattle.job.specs.declared.file.JobRead.{JobRead}
-use Rattle.job.specs.declared.file.JobRead.TheVariants.{Whole, Refused}
+use Rattle.job.specs.File.{SurfaceRead}
+use Rattle.job.specs.File.{JobRead}
 use Rattle.job.specs.Layout.{job_bytes, following, version_place, surface_a_place, surface_b_place}
 use Rattle.job.specs.File.{surface_at, with_a, with_b, job_of}
 
 Nineteen : JobRead → Type 0
-Nineteen (Whole j) = Unit {0}
-Nineteen (Refused r) = r ≡ JobFile
+Nineteen (Ok j) = Unit {0}
+Nineteen (Err r) = r ≡ JobFile
 
 with_b_lem : (s : List ℕ) (a : Patch) (b : SurfaceRead) → Nineteen (with_b s a b)
 unfolding Nineteen
-with_b_lem s a (surface.Whole b) = tt
-with_b_lem s a (surface.Refused r) = refl
+with_b_lem s a (Ok b) = tt
+with_b_lem s a (Err r) = refl
 
 with_a_lem : (s : List ℕ) (a : SurfaceRead) → Nineteen (with_a s a)
 unfolding Nineteen
-with_a_lem s (surface.Whole a) = with_b_lem s a (surface_at s surface_b_place)
-with_a_lem s (surface.Refused r) = refl
+with_a_lem s (Ok a) = with_b_lem s a (surface_at s surface_b_place)
+with_a_lem s (Err r) = refl
 
-either : (t : Bool) (j : JobRead) → Nineteen j → Nineteen (pick t j (Refused JobFile))
+either : (t : Bool) (j : JobRead) → Nineteen j → Nineteen (pick t j (Err JobFile))
 unfolding Nineteen
 either true j h = h
 either false j h = refl
 
-pub unread : (s : List ℕ) (r : Refusal) → job_of s ≡ Refused r → r ≡ JobFile
+pub unread : (s : List ℕ) (r : Refusal) → job_of s ≡ Err r → r ≡ JobFile
 unfolding job_of Nineteen
 unread s r e =
     subst Nineteen e

@@ -1,5 +1,5 @@
 -- What a job file says, and when it is refused by 19. Definitions only.
-use Rattle.std.specs.Prelude.{Bool, true, ◌&&◌, ◌||◌, List, ℕ, ◌+◌, eqb, ltb, length, Float}
+use Rattle.std.specs.Prelude.{Bool, true, ◌&&◌, ◌||◌, List, ℕ, ◌+◌, eqb, ltb, length, Float, Ok, Err}
 use Rattle.loops.specs.Loop.{pick}
 use Rattle.number.specs.Operators.{bits}
 use Rattle.wire.specs.Wire.{byte_at, two_at, four_at, eight_at, number_at}
@@ -13,10 +13,8 @@ use Rattle.patch.specs.declared.patch.Window.{Window}
 use Rattle.patch.specs.declared.patch.Patch.{Patch}
 use Rattle.patch.specs.declared.patch.Parameters.{Parameters}
 use Rattle.job.specs.declared.file.Job.{Job}
-use Rattle.job.specs.declared.file.SurfaceRead.{SurfaceRead}
-use Rattle.job.specs.declared.file.SurfaceRead.TheVariants as surface
-use Rattle.job.specs.declared.file.JobRead.{JobRead}
-use Rattle.job.specs.declared.file.JobRead.TheVariants.{Whole, Refused}
+use Rattle.job.specs.File.{SurfaceRead}
+use Rattle.job.specs.File.{JobRead}
 use Rattle.job.specs.Layout.{marks_place, both_marks, frame_place, first_size_place, second_size_place, u_window_place, v_window_place, surface_bytes}
 use Rattle.job.specs.Layout.{version_place, surface_a_place, surface_b_place, confusion_place, angular_place, guess_place, cap_place, job_bytes, following}
 
@@ -72,15 +70,15 @@ unused_clear kind first second =
 -- the surface that stands from byte `at` on, or 19
 unfoldable pub surface_at : List ℕ → ℕ → SurfaceRead
 surface_at s at =
-    pick (ltb 4 (byte_at s at)) (surface.Refused JobFile)
-    (pick (ltb both_marks (byte_at s (at + marks_place))) (surface.Refused JobFile)
+    pick (ltb 4 (byte_at s at)) (Err JobFile)
+    (pick (ltb both_marks (byte_at s (at + marks_place))) (Err JobFile)
     (pick (unused_clear (byte_at s at) (eight_at s (at + first_size_place)) (eight_at s (at + second_size_place)))
-    (surface.Whole (patch_at s at (byte_at s at) (byte_at s (at + marks_place))))
-    (surface.Refused JobFile)))
+    (Ok (patch_at s at (byte_at s at) (byte_at s (at + marks_place))))
+    (Err JobFile)))
 
 -- a surface alone: fewer than 146 bytes answer 19, bytes behind them are not read
 unfoldable pub surface_file : List ℕ → SurfaceRead
-surface_file s = pick (ltb (length s) surface_bytes) (surface.Refused JobFile) (surface_at s 0)
+surface_file s = pick (ltb (length s) surface_bytes) (Err JobFile) (surface_at s 0)
 
 -- ---- the file
 
@@ -101,19 +99,19 @@ job_at s a b =
 
 -- with surface A read: surface B, then the rest
 abbrev pub with_b : List ℕ → Patch → SurfaceRead → JobRead
-with_b s a (surface.Whole b) = Whole (job_at s a b)
-with_b s a (surface.Refused r) = Refused JobFile
+with_b s a (Ok b) = Ok (job_at s a b)
+with_b s a (Err r) = Err JobFile
 
 -- surface A, then surface B
 abbrev pub with_a : List ℕ → SurfaceRead → JobRead
-with_a s (surface.Whole a) = with_b s a (surface_at s surface_b_place)
-with_a s (surface.Refused r) = Refused JobFile
+with_a s (Ok a) = with_b s a (surface_at s surface_b_place)
+with_a s (Err r) = Err JobFile
 
 -- "19, tested before all else: not 347 bytes, length field not 343, version not 1", then the surfaces'
 unfoldable pub job_of : List ℕ → JobRead
 job_of s =
     pick (eqb (length s) job_bytes)
     (pick (eqb (four_at s 0) following)
-    (pick (eqb (byte_at s version_place) 1) (with_a s (surface_at s surface_a_place)) (Refused JobFile))
-    (Refused JobFile))
-    (Refused JobFile)
+    (pick (eqb (byte_at s version_place) 1) (with_a s (surface_at s surface_a_place)) (Err JobFile))
+    (Err JobFile))
+    (Err JobFile)

@@ -1,4 +1,5 @@
 -- The promises of the file's writer and reader follow from the equations of what they call.
+use Rattle.std.specs.Prelude.{Ok, Err}
 use mathlib.Core.Path.{◌≡◌, refl, sym, ap, subst, ◌∙◌}
 use mathlib.Core.Bool.{Bool, true, false}
 use mathlib.Core.List.{List}
@@ -17,13 +18,11 @@ use Rattle.number.proofs.Binary64.{Binary64}
 use Rattle.wire.specs.Wire.{AllBytes}
 use Rattle.refusal.specs.declared.Refusal.TheVariants as refusal
 use Rattle.refusal.specs.Refusal.{number_of}
-use Rattle.refusal.specs.declared.Verdict.{Verdict}
-use Rattle.refusal.specs.declared.Verdict.TheVariants as verdict
+use Rattle.refusal.specs.Verdict.{Verdict}
 use Rattle.refusal.specs.Verdict.{asked, and_then}
 use Rattle.refusal.proofs.Laws.{number_positive}
 use Rattle.groups.specs.Groups.{holds_of}
-use Rattle.groups.specs.declared.traced.Traced.{Traced}
-use Rattle.groups.specs.declared.traced.Traced.TheVariants.{Line}
+use Rattle.groups.specs.Traced.{TraceAnswer}
 use Rattle.groups.specs.Traced.{Outcome, outcome, count_of, start_of, closing_of}
 use Rattle.groups.specs.Traced as trace
 use Rattle.geometry.specs.declared.tolerance.Tolerance.{Tolerance}
@@ -31,8 +30,7 @@ use Rattle.patch.specs.declared.patch.Patch.{Patch}
 use Rattle.certificate.specs.Passes.{Passes}
 use Rattle.certificate.proofs.Index.{code_small}
 use Rattle.certificate.proofs.Finite.{numbers_finite}
-use Rattle.trace_file.specs.declared.write.Written.{Written}
-use Rattle.trace_file.specs.declared.write.Written.TheVariants.{Bytes}
+use Rattle.trace_file.specs.Write.{Written}
 use Rattle.trace_file.specs.Layout.{file_bytes, version1, width1}
 use Rattle.trace_file.specs.File.{all_finite, file_of}
 use Rattle.trace_file.specs.Write.{filed, bytes_of, write_fitness, after_writing, write_of}
@@ -49,7 +47,7 @@ use Rattle.passing.specs.Promises.{WritePromise, WriteV1Promise, ReadPromise}
 module _ (version w : ℕ) (l : List Float) (count start code : ℕ) (before : List ℕ) where
   -- where nothing is refused every test passed, and the file stands at the front
   abbrev Whole : write.Filed → Type 0
-  Whole o = WriteFit w l count start code (length before) × (o ≡ filed (Bytes (file_bytes w count)) (written (file_of version w l count start code) before))
+  Whole o = WriteFit w l count start code (length before) × (o ≡ filed (Ok (file_bytes w count)) (written (file_of version w l count start code) before))
 
   write_passed : write.refusal_of (write_of version w l count start code before).answer ≡ 0 → Whole (write_of version w l count start code before)
   unfolding write_of
@@ -57,8 +55,8 @@ module _ (version w : ℕ) (l : List Float) (count start code : ℕ) (before : L
     where
       go : (v : Verdict) → write_fitness w l count start code (length before) ≡ v → write.refusal_of (after_writing version w l count start code before v).answer ≡ 0
           → Whole (after_writing version w l count start code before v)
-      go verdict.Passed e z = (write_fit w l count start code (length before) e, refl)
-      go (verdict.Refused r) e z = let h = number_positive r in absurd (omega arith)
+      go (Ok u) e z = (write_fit w l count start code (length before) e, refl)
+      go (Err r) e z = let h = number_positive r in absurd (omega arith)
 
   pub write_promised : Binary64 l → {after : List ℕ} {r : Written} → filed r after ≡ write_of version w l count start code before → WritePromise version w l count start code before after r
   write_promised d {after} {r} e =
@@ -69,7 +67,7 @@ module _ (version w : ℕ) (l : List Float) (count start code : ℕ) (before : L
       }
     where
       back : write.refusal_of r ≡ 0 → (t : List Float) → w * count ≤ length t
-          → read_of version w (take (bytes_of r) after) t ≡ outcome (Line count start code) (written (take (w * count) l) t)
+          → read_of version w (take (bytes_of r) after) t ≡ outcome (line_of_three count start code) (written (take (w * count) l) t)
       back z t h =
           let p = write_passed (ap (λ (o : write.Filed). write.refusal_of o.answer) (sym e) ∙ z) in
           let q = e ∙ p.1 in
@@ -96,7 +94,7 @@ module _ {a b : Patch} {tol : Tolerance} {l : List Float} {count start closing :
       rw (fits_claim p.least p.most p.among (code_small p.closed), le-leb (width1 * count) (length l) p.lent, all_finite_lem)
       (go (leb (file_bytes width1 count) (length before)))
     where
-      go : (t : Bool) → write.refusal_of (after_writing version1 width1 l count start closing before (and_then (asked t refusal.Lent) verdict.Passed)).answer ≡ pick t 0 (number_of refusal.Lent)
+      go : (t : Bool) → write.refusal_of (after_writing version1 width1 l count start closing before (and_then (asked t refusal.Lent) (Ok tt))).answer ≡ pick t 0 (number_of refusal.Lent)
       go true = refl
       go false = refl
 
@@ -110,7 +108,7 @@ write_v1_promised l count start closing before d e =
 
 -- ---- the reader
 
-pub read_promised : (version w : ℕ) (file : List ℕ) (before : List Float) → AllBytes file → {after : List Float} {r : Traced}
+pub read_promised : (version w : ℕ) (file : List ℕ) (before : List Float) → AllBytes file → {after : List Float} {r : TraceAnswer}
     → outcome r after ≡ read_of version w file before → ReadPromise version w file before after r
 read_promised version w file before d {after} {r} e =
     record {
@@ -124,7 +122,7 @@ read_promised version w file before d {after} {r} e =
     passed z = ap (λ (o : Outcome). trace.refusal_of o.answer) (sym e) ∙ z
 
     back : trace.refusal_of r ≡ 0 → (t : List ℕ) → length file ≤ length t
-        → write_of version w after (count_of r) (start_of r) (closing_of r) t ≡ filed (Bytes (length file)) (written file t)
+        → write_of version w after (count_of r) (start_of r) (closing_of r) t ≡ filed (Ok (length file)) (written file t)
     back z t h =
         ap (λ (o : Outcome). write_of version w o.buffer (count_of o.answer) (start_of o.answer) (closing_of o.answer) t) e
         ∙ read_again version w file d before (passed z) t h

@@ -1,4 +1,5 @@
 -- Every line that the call answers passes, in the buffer that it leaves.
+use Rattle.std.specs.Prelude.{Ok, Err, Some, None}
 use mathlib.Core.Path.{◌≡◌, refl}
 use mathlib.Core.Bool.{Bool, true, false}
 use mathlib.Core.List.{List, ◌++◌, append_assoc}
@@ -12,8 +13,7 @@ use Rattle.loops.specs.Loop.{pick}
 use Rattle.number.specs.Helpers.{positive_zero}
 use Rattle.groups.specs.Groups.{width, least_points}
 use Rattle.refusal.specs.declared.Refusal.TheVariants as refusal
-use Rattle.refusal.specs.declared.Verdict.{Verdict}
-use Rattle.refusal.specs.declared.Verdict.TheVariants as verdict
+use Rattle.refusal.specs.Verdict.{Verdict}
 use Rattle.refusal.proofs.Laws.{number_positive}
 use Rattle.geometry.specs.declared.tolerance.Tolerance.{Tolerance}
 use Rattle.patch.specs.declared.patch.Patch.{Patch}
@@ -21,8 +21,7 @@ use Rattle.patch.specs.declared.patch.Parameters.{Parameters}
 use Rattle.meeting.specs.declared.newton.Met.{Met}
 use Rattle.meeting.specs.declared.newton.Met.TheVariants as met
 use Rattle.meeting.specs.Newton.{meet_of}
-use Rattle.tangent.specs.declared.Direction.{Direction}
-use Rattle.tangent.specs.declared.Direction.TheVariants as direction
+use Rattle.tangent.specs.Tangent.{Direction}
 use Rattle.tangent.specs.Tangent.{tangent_of}
 use Rattle.meeting.specs.Intersection.{IsIntersection}
 use Rattle.meeting.proofs.Intersection.{meet_intersects}
@@ -32,14 +31,13 @@ use Rattle.walk.specs.Line.{line_of}
 use Rattle.walk.specs.Line as line
 use Rattle.groups.specs.Traced.{Outcome, outcome, refusal_of, count_of, start_of, closing_of}
 use Rattle.walk.specs.Trace.{call_fitness, room, settled, after_direction, after_seed, walk_of, after_call, trace_of}
-use Rattle.groups.specs.declared.traced.Traced.{Traced}
-use Rattle.groups.specs.declared.traced.Traced.TheVariants.{Line, Refused}
+use Rattle.groups.specs.Traced.{TraceAnswer}
 use Rattle.walk.proofs.Calls.{CallFit, call_fit}
 use Rattle.passing.proofs.Lines.{LineFine, line_fine}
 use Rattle.passing.proofs.Rows.{line_passes}
 
 -- the trace that an answer tells of, at the front of a list, passes
-abbrev AnswerPasses : Patch → Patch → Tolerance → Traced → List Float → Type 0
+abbrev AnswerPasses : Patch → Patch → Tolerance → TraceAnswer → List Float → Type 0
 AnswerPasses a b tol r l = refusal_of r ≡ 0 → Passes a b tol l (count_of r) (start_of r) (closing_of r)
 
 -- ---- a fit call
@@ -59,13 +57,13 @@ module _ {a b : Patch} {tol : Tolerance} {n : ℕ} {l : List Float} (f : CallFit
       zeros = replicate (room n - width * length m.points) positive_zero
 
       go : (t : Bool) → leb least_points (length m.points) ≡ t
-          → Passing (pick t (outcome (Line (length m.points) m.start m.closing) (rows ++ zeros)) (outcome (Refused refusal.TooShort) (replicate (room n) positive_zero)))
+          → Passing (pick t (outcome (line_of_three (length m.points) m.start m.closing) (rows ++ zeros)) (outcome (Err refusal.TooShort) (replicate (room n) positive_zero)))
       go true e q = rw (append_assoc rows zeros (drop (room n) l)) (line_passes f x v (zeros ++ drop (room n) l) (leb-true least_points (length m.points) e))
       go false e q = absurd (let z : ⊥ = omega arith in z)
 
   direction_passing : (x : Parameters) → IsIntersection a b tol.confusion x → (d : Direction) → Passing (after_direction a b tol n x d)
-  direction_passing x g (direction.Along t) = settled_passing x (line_of a b tol x t n) (line_fine a b tol f.tolerance x g t n)
-  direction_passing x g direction.Missing = λ q. absurd (let z : ⊥ = omega arith in z)
+  direction_passing x g (Some t) = settled_passing x (line_of a b tol x t n) (line_fine a b tol f.tolerance x g t n)
+  direction_passing x g None = λ q. absurd (let z : ⊥ = omega arith in z)
 
   seed_passing : (guess : Parameters) (m : Met) → meet_of a b guess tol ≡ m → Passing (after_seed a b tol n m)
   seed_passing guess (met.At x) e = direction_passing x (meet_intersects a b tol f.tolerance guess x e) (tangent_of a b x tol)
@@ -85,5 +83,5 @@ unfolding trace_of
 trace_passes a b tol guess n l = go (call_fitness a b tol guess n l) refl
   where
     go : (v : Verdict) → call_fitness a b tol guess n l ≡ v → AnswerPasses a b tol (after_call a b tol guess n l v).answer (after_call a b tol guess n l v).buffer
-    go (verdict.Refused r) k = λ q. absurd (let h = number_positive r in let z : ⊥ = omega arith in z)
-    go verdict.Passed k = walk_passing (call_fit guess k) guess
+    go (Err r) k = λ q. absurd (let h = number_positive r in let z : ⊥ = omega arith in z)
+    go (Ok u) k = walk_passing (call_fit guess k) guess

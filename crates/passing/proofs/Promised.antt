@@ -1,4 +1,5 @@
 -- The promises of the public calls follow from the equations of what they call.
+use Rattle.std.specs.Prelude.{Ok, Err}
 use mathlib.Core.Path.{◌≡◌, refl, ap, sym, ◌∙◌}
 use mathlib.Core.List.{List}
 use Prim.Native.Nat.{ℕ, ◌<◌}
@@ -13,35 +14,33 @@ use Rattle.patch.specs.declared.patch.Patch.{Patch}
 use Rattle.patch.specs.declared.patch.Parameters.{Parameters}
 use Rattle.meeting.specs.Newton.{most_rounds, Unmet}
 use Rattle.meeting.proofs.Rounds.{meet_unmet, unmet_round, singular_bounds}
-use Rattle.refusal.specs.declared.Verdict.{Verdict}
-use Rattle.refusal.specs.declared.Verdict.TheVariants.{Passed, Refused}
+use Rattle.refusal.specs.Verdict.{Verdict}
 use Rattle.certificate.specs.Passes.{Passes}
 use Rattle.refusal.specs.Verdict.{refusal_of}
 use Rattle.certificate.specs.Check.{check_of}
 use Rattle.certificate.proofs.Exact.{passes_finite, passes_exact}
 use Rattle.certificate.proofs.Passed.{checked_passes, passes_checked}
-use Rattle.groups.specs.declared.traced.Traced.{Traced}
-use Rattle.groups.specs.declared.traced.Traced.TheVariants as traced
+use Rattle.groups.specs.Traced.{TraceAnswer}
 use Rattle.groups.specs.Traced.{count_of, start_of, closing_of}
 use Rattle.groups.specs.Traced as trace
 use Rattle.walk.specs.Trace.{trace_of}
 use Rattle.walk.proofs.Unmet.{Seeds, unmet_seeds, singular_seeds, unmet_answer, answer_unmet}
 use Rattle.boxes.specs.declared.boxtree.Aabb.{Aabb}
-use Rattle.boxes.specs.declared.crossing.Crossed.{Crossed}
+use Rattle.boxes.specs.Crossing.{Crossed}
 use Rattle.boxes.specs.Crossing.{crossed_of, crossing_of}
 use Rattle.boxes.proofs.Counted.{crossed_when}
 use Rattle.passing.specs.Promises.{ExactGaps, GuessUnmet, TracePromise, CheckPromise, CrossingPromise}
 use Rattle.passing.proofs.Passing.{trace_passes}
 
 -- no refusal has the number 0
-pub not_refused : (r : Verdict) → refusal_of r ≡ 0 → r ≡ Passed
-not_refused Passed e = refl
-not_refused (Refused q) e = let h = number_positive q in absurd (omega (arith, h, e))
+pub not_refused : (r : Verdict) → refusal_of r ≡ 0 → r ≡ Ok tt
+not_refused (Ok u) e = refl
+not_refused (Err q) e = let h = number_positive q in absurd (omega (arith, h, e))
 
 exact_gaps : {a b : Patch} {tol : Tolerance} {l : List Float} {count start closing : ℕ} → Passes a b tol l count start closing → ExactGaps a b tol l count
 exact_gaps p i h = let f = passes_finite p i h in record { finite_a = f.0; finite_b = f.1; within = passes_exact p i h }
 
-pub trace_promised : (a b : Patch) (tol : Tolerance) (guess : Parameters) (cap : ℕ) (before : List Float) {after : List Float} {r : Traced}
+pub trace_promised : (a b : Patch) (tol : Tolerance) (guess : Parameters) (cap : ℕ) (before : List Float) {after : List Float} {r : TraceAnswer}
     → r ≡ (trace_of a b tol guess cap before).answer → after ≡ (trace_of a b tol guess cap before).buffer → TracePromise a b tol guess cap before after r
 trace_promised a b tol guess cap before {after} {r} answer buffer =
     record {
@@ -57,15 +56,15 @@ trace_promised a b tol guess cap before {after} {r} answer buffer =
       columns = λ i col e. (bounds i col e).1;
     }
   where
-    guess_unmet : (q : Refusal) → Seeds q → r ≡ traced.Refused q → GuessUnmet a b tol guess cap before q
+    guess_unmet : (q : Refusal) → Seeds q → r ≡ Err q → GuessUnmet a b tol guess cap before q
     guess_unmet q s e =
         let h = answer_unmet a b tol guess cap before q s (sym answer ∙ e) in
         record { fit = h.0; meeting = h.1 }
 
-    why : (q : Refusal) → Seeds q → r ≡ traced.Refused q → Unmet 3 q
+    why : (q : Refusal) → Seeds q → r ≡ Err q → Unmet 3 q
     why q s e = meet_unmet a b guess tol q (guess_unmet q s e).meeting
 
-    bounds : (i col : ℕ) → r ≡ traced.Refused (refusal.Singular i col) → (i < most_rounds) × (col < 3)
+    bounds : (i col : ℕ) → r ≡ Err (refusal.Singular i col) → (i < most_rounds) × (col < 3)
     bounds i col e = singular_bounds i col (why (refusal.Singular i col) (singular_seeds i col) e)
 
     passes : trace.refusal_of r ≡ 0 → Passes a b tol after (count_of r) (start_of r) (closing_of r)

@@ -1,6 +1,6 @@
 -- What the public calls promise, on one page. A contract is one of the records at the end: equations settle the answer and every lent output from the
 -- inputs alone, refused calls too; the promises stand beside them by name. The number of an answer is 0 where nothing is refused. Definitions only.
-use Rattle.std.specs.Prelude.{◌≡◌, true, List, ℕ, ◌*◌, ◌≤◌, ◌<◌, leb, length, take, Float}
+use Rattle.std.specs.Prelude.{◌≡◌, true, List, ℕ, ◌*◌, ◌≤◌, ◌<◌, leb, length, take, Float, Ok, Err, None}
 use Rattle.loops.specs.Loop.{pick}
 use Rattle.loops.specs.Over.{written}
 use Rattle.wire.specs.Wire.{AllBytes}
@@ -8,33 +8,29 @@ use Rattle.geometry.specs.declared.tolerance.Tolerance.{Tolerance}
 use Rattle.gap.specs.Gap.{PointFinite, ExactlyWithin}
 use Rattle.patch.specs.declared.patch.Patch.{Patch}
 use Rattle.patch.specs.declared.patch.Parameters.{Parameters}
-use Rattle.patch.specs.declared.point.Located.{Located}
+use Rattle.patch.specs.Located.{Located}
 use Rattle.patch.specs.Located.{point_a, point_b, located_of}
 use Rattle.refusal.specs.declared.Refusal.{Refusal}
 use Rattle.refusal.specs.declared.Refusal.TheVariants as refusal
 use Rattle.refusal.specs.Refusal.{number_of}
-use Rattle.refusal.specs.declared.Verdict.{Verdict}
-use Rattle.refusal.specs.declared.Verdict.TheVariants.{Passed}
+use Rattle.refusal.specs.Verdict.{Verdict}
 use Rattle.meeting.specs.declared.newton.Met.TheVariants as met
 use Rattle.meeting.specs.Newton.{most_rounds, meet_of}
 use Rattle.certificate.specs.Passes.{parameters_at, Passes}
 use Rattle.certificate.specs.Check.{check_of}
 use Rattle.refusal.specs.Verdict as verdict
-use Rattle.groups.specs.declared.traced.Traced.{Traced}
-use Rattle.groups.specs.declared.traced.Traced.TheVariants.{Line, Refused}
+use Rattle.groups.specs.Traced.{TraceAnswer}
 use Rattle.groups.specs.Traced.{outcome, count_of, start_of, closing_of}
 use Rattle.groups.specs.Traced as trace
 use Rattle.walk.specs.Trace.{call_fitness, trace_of}
 use Rattle.boxes.specs.declared.boxtree.Aabb.{Aabb}
-use Rattle.boxes.specs.declared.crossing.Crossed.{Crossed}
+use Rattle.boxes.specs.Crossing.{Crossed}
 use Rattle.boxes.specs.Counts.{Counts, Fit}
 use Rattle.boxes.specs.Crosses.{grown_of}
 use Rattle.boxes.specs.Crossing.{crossed_of, crossing_of}
 use Rattle.job.specs.declared.file.Job.{Job}
-use Rattle.job.specs.declared.file.JobRead.TheVariants.{Whole}
 use Rattle.job.specs.File.{job_of}
-use Rattle.trace_file.specs.declared.write.Written.{Written}
-use Rattle.trace_file.specs.declared.write.Written.TheVariants.{Bytes}
+use Rattle.trace_file.specs.Write.{Written}
 use Rattle.trace_file.specs.Layout.{file_bytes, version1, width1}
 use Rattle.trace_file.specs.Write.{filed, bytes_of, write_of}
 use Rattle.trace_file.specs.Write as write
@@ -56,19 +52,19 @@ ExactGaps a b tol l count = (i : ℕ) → i < count → ExactGap a b tol l i
 -- The bytes are a job file, and under its surfaces and tolerance the trace passes, with exact gaps.
 pub record JobPasses (bytes : List ℕ) (l : List Float) (count start closing : ℕ) : Type 0 where
   pub job : Job
-  pub read : job_of bytes ≡ Whole job
+  pub read : job_of bytes ≡ Ok job
   pub passes : Passes job.a job.b job.tol l count start closing
   pub exact : ExactGaps job.a job.b job.tol l count
 
 -- (02, A2) None of 1 to 8 refuses, and `meet` of the guess refuses with q.
 pub record GuessUnmet (a b : Patch) (tol : Tolerance) (guess : Parameters) (cap : ℕ) (before : List Float) (q : Refusal) : Type 0 where
-  pub fit : call_fitness a b tol guess cap before ≡ Passed
+  pub fit : call_fitness a b tol guess cap before ≡ Ok tt
   pub meeting : meet_of a b guess tol ≡ met.Refused q
 
 -- The bytes are a job file, and `meet` of its guess refuses so.
 pub record JobUnmet (bytes : List ℕ) (before : List Float) (q : Refusal) : Type 0 where
   pub job : Job
-  pub read : job_of bytes ≡ Whole job
+  pub read : job_of bytes ≡ Ok job
   pub guess : GuessUnmet job.a job.b job.tol job.guess job.cap before q
 
 -- ---- the contracts of the public calls
@@ -78,7 +74,7 @@ pub record PointPromise (patch : Patch) (u v : Float) (r : Located) : Type 0 whe
   pub answer : r ≡ located_of patch u v
 
 -- the line where two surfaces meet; `before` and `after` are the lent buffer
-pub record TracePromise (a b : Patch) (tol : Tolerance) (guess : Parameters) (cap : ℕ) (before after : List Float) (r : Traced) : Type 0 where
+pub record TracePromise (a b : Patch) (tol : Tolerance) (guess : Parameters) (cap : ℕ) (before after : List Float) (r : TraceAnswer) : Type 0 where
   -- "The tracer's answer and buffer are what 01's rules give"
   pub answer : r ≡ (trace_of a b tol guess cap before).answer
   pub buffer : after ≡ (trace_of a b tol guess cap before).buffer
@@ -87,13 +83,13 @@ pub record TracePromise (a b : Patch) (tol : Tolerance) (guess : Parameters) (ca
   pub checked : trace.refusal_of r ≡ 0 → verdict.refusal_of (check_of a b tol after (count_of r) (start_of r) (closing_of r)) ≡ 0
   pub exact : trace.refusal_of r ≡ 0 → ExactGaps a b tol after (count_of r)
   -- (02, A2, A3) 9 or 21 is the answer exactly when `meet` of the guess answers so, with its round and, beside 21, its column
-  pub unmet : (i : ℕ) → r ≡ Refused (refusal.NoMeeting i) → GuessUnmet a b tol guess cap before (refusal.NoMeeting i)
-  pub singular : (i col : ℕ) → r ≡ Refused (refusal.Singular i col) → GuessUnmet a b tol guess cap before (refusal.Singular i col)
-  pub handed_on : (q : Refusal) → GuessUnmet a b tol guess cap before q → r ≡ Refused q
+  pub unmet : (i : ℕ) → r ≡ Err (refusal.NoMeeting i) → GuessUnmet a b tol guess cap before (refusal.NoMeeting i)
+  pub singular : (i col : ℕ) → r ≡ Err (refusal.Singular i col) → GuessUnmet a b tol guess cap before (refusal.Singular i col)
+  pub handed_on : (q : Refusal) → GuessUnmet a b tol guess cap before q → r ≡ Err q
   -- the round is at most 32 beside 9 and at most 31 beside 21
-  pub rounds : (i : ℕ) → (r ≡ Refused (refusal.NoMeeting i) → i ≤ most_rounds) × ((col : ℕ) → r ≡ Refused (refusal.Singular i col) → i < most_rounds)
+  pub rounds : (i : ℕ) → (r ≡ Err (refusal.NoMeeting i) → i ≤ most_rounds) × ((col : ℕ) → r ≡ Err (refusal.Singular i col) → i < most_rounds)
   -- the column is that of a coordinate: x, y or z
-  pub columns : (i col : ℕ) → r ≡ Refused (refusal.Singular i col) → col < 3
+  pub columns : (i col : ℕ) → r ≡ Err (refusal.Singular i col) → col < 3
 
 -- the check of the first `count` points of a list
 pub record CheckPromise (a b : Patch) (tol : Tolerance) (l : List Float) (count start closing : ℕ) (r : Verdict) : Type 0 where
@@ -117,7 +113,7 @@ pub record WritePromise (version w : ℕ) (l : List Float) (count start closing 
   pub file : after ≡ (write_of version w l count start closing before).file
   -- "Reading what was written, into room enough, returns the trace bit for bit"
   pub reads_back : write.refusal_of r ≡ 0 → (t : List Float) → w * count ≤ length t
-      → read_of version w (take (bytes_of r) after) t ≡ outcome (Line count start closing) (written (take (w * count) l) t)
+      → read_of version w (take (bytes_of r) after) t ≡ outcome (line_of_three count start closing) (written (take (w * count) l) t)
 
 -- the same for version 1, which has the numbers of a trace that the check reads
 pub record WriteV1Promise (l : List Float) (count start closing : ℕ) (before after : List ℕ) (r : Written) : Type 0 where
@@ -127,10 +123,10 @@ pub record WriteV1Promise (l : List Float) (count start closing : ℕ) (before a
       → write.refusal_of r ≡ pick (leb (file_bytes width1 count) (length before)) 0 (number_of refusal.Lent)
 
 -- the trace of a file of a version with w numbers a point; `before` and `after` are the lent numbers
-pub record ReadPromise (version w : ℕ) (file : List ℕ) (before after : List Float) (r : Traced) : Type 0 where
+pub record ReadPromise (version w : ℕ) (file : List ℕ) (before after : List Float) (r : TraceAnswer) : Type 0 where
   pub answer : r ≡ (read_of version w file before).answer
   pub buffer : after ≡ (read_of version w file before).buffer
   -- "only one file stands for a trace": a file that reads, written again, is that file, and no other file reads as the same trace
   pub writes_back : trace.refusal_of r ≡ 0 → (t : List ℕ) → length file ≤ length t
-      → write_of version w after (count_of r) (start_of r) (closing_of r) t ≡ filed (Bytes (length file)) (written file t)
+      → write_of version w after (count_of r) (start_of r) (closing_of r) t ≡ filed (Ok (length file)) (written file t)
   pub only : trace.refusal_of r ≡ 0 → (other : List ℕ) → AllBytes other → read_of version w other before ≡ outcome r after → other ≡ file

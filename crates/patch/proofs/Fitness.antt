@@ -1,9 +1,9 @@
 -- What the tests of two surfaces and the tolerance say: where they pass, and which refusals are theirs.
+use Rattle.std.specs.Prelude.{Ok, Err}
 use mathlib.Core.Path.{◌≡◌}
 use mathlib.Core.Bool.{true}
 use Rattle.refusal.specs.declared.Refusal.TheVariants as refusal
-use Rattle.refusal.specs.declared.Verdict.{Verdict}
-use Rattle.refusal.specs.declared.Verdict.TheVariants.{Passed, Refused}
+use Rattle.refusal.specs.Verdict.{Verdict}
 use Rattle.refusal.proofs.Order.{asked_held, held_asked, first_passed, passed_first, first_each, asked_each}
 use Rattle.geometry.specs.declared.tolerance.Tolerance.{Tolerance}
 use Rattle.geometry.specs.Tolerance.{tolerance_fit}
@@ -12,16 +12,16 @@ use Rattle.patch.specs.Patch.{numbers_fit, sizes_fit, window_fit, mark_fit, u_is
 use Rattle.patch.specs.Pair.{pair_tests, pair_fitness}
 
 module _ (a b : Patch) (tol : Tolerance) where
-  pub pair_passed : pair_fitness a b tol ≡ Passed → (fitness_of a ≡ Passed) × (fitness_of b ≡ Passed) × (tolerance_fit tol ≡ true)
+  pub pair_passed : pair_fitness a b tol ≡ Ok tt → (fitness_of a ≡ Ok tt) × (fitness_of b ≡ Ok tt) × (tolerance_fit tol ≡ true)
   unfolding pair_fitness
   pair_passed e = let s = first_passed (pair_tests a b tol) e in (s.0, s.1.0, asked_held (tolerance_fit tol) refusal.Tolerance s.1.1.0)
 
-  pub passed_pair : fitness_of a ≡ Passed → fitness_of b ≡ Passed → tolerance_fit tol ≡ true → pair_fitness a b tol ≡ Passed
+  pub passed_pair : fitness_of a ≡ Ok tt → fitness_of b ≡ Ok tt → tolerance_fit tol ≡ true → pair_fitness a b tol ≡ Ok tt
   unfolding pair_fitness
   passed_pair f g t = passed_first (pair_tests a b tol) (f, (g, (held_asked (tolerance_fit tol) refusal.Tolerance t, tt)))
 
 -- what holds of a pass and of 1 to 4 holds of a surface's verdict
-pub fitness_each : (P : Verdict → Type 0) → P Passed → P (Refused refusal.Number) → P (Refused refusal.Size) → P (Refused refusal.Window) → P (Refused refusal.TurnMark)
+pub fitness_each : (P : Verdict → Type 0) → P (Ok tt) → P (Err refusal.Number) → P (Err refusal.Size) → P (Err refusal.Window) → P (Err refusal.TurnMark)
     → (p : Patch) → P (fitness_of p)
 unfolding fitness_of
 fitness_each P passed number size window mark p =
@@ -45,8 +45,8 @@ fitness_each P passed number size window mark p =
     )
 
 -- and with 5 of the verdict of two surfaces and the tolerance
-pub pair_each : (P : Verdict → Type 0) → P Passed → P (Refused refusal.Number) → P (Refused refusal.Size) → P (Refused refusal.Window) → P (Refused refusal.TurnMark)
-    → P (Refused refusal.Tolerance) → (a b : Patch) (tol : Tolerance) → P (pair_fitness a b tol)
+pub pair_each : (P : Verdict → Type 0) → P (Ok tt) → P (Err refusal.Number) → P (Err refusal.Size) → P (Err refusal.Window) → P (Err refusal.TurnMark)
+    → P (Err refusal.Tolerance) → (a b : Patch) (tol : Tolerance) → P (pair_fitness a b tol)
 unfolding pair_fitness
 pair_each P passed number size window mark tolerance a b tol =
     let fitness = fitness_each P passed number size window mark in

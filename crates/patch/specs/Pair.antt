@@ -1,7 +1,7 @@
 -- What every call on two surfaces tests first. Definitions only.
 use Rattle.std.specs.Prelude.{List, [], ◌∷◌}
 use Rattle.refusal.specs.declared.Refusal.TheVariants as refusal
-use Rattle.refusal.specs.declared.Verdict.{Verdict}
+use Rattle.refusal.specs.Verdict.{Verdict}
 use Rattle.refusal.specs.Verdict.{asked, first_refusal}
 use Rattle.geometry.specs.declared.tolerance.Tolerance.{Tolerance}
 use Rattle.geometry.specs.Tolerance.{tolerance_fit}

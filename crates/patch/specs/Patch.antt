@@ -4,7 +4,7 @@ use Rattle.loops.specs.Loop.{pick}
 use Rattle.number.specs.Operators.{bits, ◌<?◌, ◌≤?◌}
 use Rattle.number.specs.Helpers.{abs_of, clamp_of, number_fit}
 use Rattle.refusal.specs.declared.Refusal.TheVariants as refusal
-use Rattle.refusal.specs.declared.Verdict.{Verdict}
+use Rattle.refusal.specs.Verdict.{Verdict}
 use Rattle.refusal.specs.Verdict.{asked, first_refusal}
 use Rattle.geometry.specs.declared.vector.Vector3D.{Vector3D}
 use Rattle.geometry.specs.declared.frame.Frame3D.{Frame3D}

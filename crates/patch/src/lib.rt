@@ -8,4 +8,3 @@ pub mod point;
 
 pub use pair::pair_fitness;
 pub use patch::{Parameters, Patch, Window, inside, within_bounds};
-pub use point::Located;

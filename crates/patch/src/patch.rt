@@ -4,7 +4,7 @@ ghost use Rattle.patch.specs.Patch.{u_is_angle, v_is_angle, mark_fit, fitness_of
 
 use analytic::Surface;
 use geometry::{Frame3D, Vector3D};
-use refusal::{Refusal, Verdict};
+use refusal::{Refusal, asked};
 
 // A parameter's window and turn mark. A marked parameter has a period: its window is tested by fitness and then not applied.
 #[derive(Clone, Copy)]
@@ -40,8 +40,7 @@ fn vector_fit(d: Vector3D) -> bool
 fn frame_fit(f: Frame3D) -> bool
     ensures { result ≡ frame_fit f }
 {
-    let origin = f.origin;
-    origin.is_fit() && (vector_fit(f.x) && (vector_fit(f.y) && vector_fit(f.z)))
+    f.origin.is_fit() && (vector_fit(f.x) && (vector_fit(f.y) && vector_fit(f.z)))
 }
 
 // Two sizes beside a frame.
@@ -165,31 +164,21 @@ impl Window {
 
 impl Patch {
     // Refusals 1 to 4, in that order.
-    pub fn fitness(self) -> Verdict
+    pub fn fitness(self) -> Result<(), Refusal>
         ensures { result ≡ fitness_of self }
     {
-        let surface = self.surface;
-        let u = self.u;
-        let v = self.v;
-        if !numbers_fit(surface) {
-            return Verdict::Refused(Refusal::Number);
-        }
-        if !sizes_fit(surface) {
-            return Verdict::Refused(Refusal::Size);
-        }
-        if !u.is_fit() {
-            return Verdict::Refused(Refusal::Window);
-        }
-        if !v.is_fit() {
-            return Verdict::Refused(Refusal::Window);
-        }
-        if !mark_fit(u.turn, u_is_angle(surface)) {
-            return Verdict::Refused(Refusal::TurnMark);
-        }
-        if !mark_fit(v.turn, v_is_angle(surface)) {
-            return Verdict::Refused(Refusal::TurnMark);
-        }
-        Verdict::Passed
+        asked(numbers_fit(self.surface), Refusal::Number)?;
+        asked(sizes_fit(self.surface), Refusal::Size)?;
+        asked(self.u.is_fit(), Refusal::Window)?;
+        asked(self.v.is_fit(), Refusal::Window)?;
+        asked(
+            mark_fit(self.u.turn, u_is_angle(self.surface)),
+            Refusal::TurnMark,
+        )?;
+        asked(
+            mark_fit(self.v.turn, v_is_angle(self.surface)),
+            Refusal::TurnMark,
+        )
     }
 }
 
@@ -197,25 +186,17 @@ impl Patch {
 pub fn inside(a: Patch, b: Patch, x: Parameters) -> bool
     ensures { result ≡ inside_of a b x }
 {
-    let u1 = a.u;
-    let v1 = a.v;
-    let u2 = b.u;
-    let v2 = b.v;
-    u1.holds(x.u1) && (v1.holds(x.v1) && (u2.holds(x.u2) && v2.holds(x.v2)))
+    a.u.holds(x.u1) && (a.v.holds(x.v1) && (b.u.holds(x.u2) && b.v.holds(x.v2)))
 }
 
 // The parameters, each clamped to its window where that applies: the Rust's `within_bounds`.
 pub fn within_bounds(a: Patch, b: Patch, x: Parameters) -> Parameters
     ensures { result ≡ within_bounds a b x }
 {
-    let u1 = a.u;
-    let v1 = a.v;
-    let u2 = b.u;
-    let v2 = b.v;
     Parameters {
-        u1: u1.bounded(x.u1),
-        v1: v1.bounded(x.v1),
-        u2: u2.bounded(x.u2),
-        v2: v2.bounded(x.v2),
+        u1: a.u.bounded(x.u1),
+        v1: a.v.bounded(x.v1),
+        u2: b.u.bounded(x.u2),
+        v2: b.v.bounded(x.v2),
     }
 }

@@ -3,6 +3,7 @@
 
 ghost use Rattle.std.specs.Prelude.{◌≡◌};
 ghost use Rattle.refusal.specs.Refusal.{alone, of_point, in_round, in_column, numbers_of, number_of};
+ghost use Rattle.refusal.specs.Verdict.{asked};
 
 #[derive(Clone, Copy)]
 pub enum Refusal {
@@ -41,13 +42,6 @@ pub struct Numbers {
     pub index: u64,
     pub round: u64,
     pub column: u64,
-}
-
-// What tests say: all passed, or the first refusal.
-#[derive(Clone, Copy)]
-pub enum Verdict {
-    Passed,
-    Refused(Refusal),
 }
 
 // A refusal that is its number alone.
@@ -98,6 +92,13 @@ fn in_column(number: u64, round: u64, column: u64) -> Numbers
     }
 }
 
+// One test: refused where it fails. Tests in an order are such calls, each with a `?`.
+pub fn asked(test: bool, refusal: Refusal) -> Result<(), Refusal>
+    ensures { result ≡ asked test refusal }
+{
+    if test { Ok(()) } else { Err(refusal) }
+}
+
 impl Refusal {
     // Document 01's number, and what it adds.
     pub fn numbers(self) -> Numbers
@@ -132,7 +133,6 @@ impl Refusal {
     pub fn number(self) -> u64
         ensures { result ≡ number_of self }
     {
-        let n = self.numbers();
-        n.number
+        self.numbers().number
     }
 }

@@ -1,5 +1,6 @@
 -- What every step of the walk keeps: a new point is A's own for its parameters, under a fit tolerance an intersection, and its computed
 -- chord from the last is at most 0.2; a half closes only when it holds 3 points.
+use Rattle.std.specs.Prelude.{Some, None}
 use mathlib.Core.Path.{◌≡◌, refl, subst}
 use mathlib.Core.Bool.{Bool, true, false}
 use Prim.Native.Nat.{ℕ, ◌≤◌}
@@ -21,8 +22,7 @@ use Rattle.patch.specs.declared.patch.Patch.{Patch}
 use Rattle.patch.specs.declared.patch.Parameters.{Parameters}
 use Rattle.meeting.specs.declared.newton.Met.{Met}
 use Rattle.meeting.specs.declared.newton.Met.TheVariants as met
-use Rattle.tangent.specs.declared.Direction.{Direction}
-use Rattle.tangent.specs.declared.Direction.TheVariants as direction
+use Rattle.tangent.specs.Tangent.{Direction}
 use Rattle.marching.specs.declared.leaving.Exit.{Exit}
 use Rattle.marching.specs.declared.leaving.Exit.TheVariants as exit
 use Rattle.tangent.specs.Tangent.{tangent_of}
@@ -91,8 +91,8 @@ module _ (a b : Patch) (tol : Tolerance) (dir : Float) (w : Walker) where
           at false e = tt
 
   tangent_fine : (h : Float) (y : Parameters) → Good y → (d : Direction) → StrideFine (after_tangent a tol.confusion dir w h y d)
-  tangent_fine h y g (direction.Along d) = onward_fine h y (scale_of d dir) g
-  tangent_fine h y g direction.Missing = tt
+  tangent_fine h y g (Some d) = onward_fine h y (scale_of d dir) g
+  tangent_fine h y g None = tt
 
   meeting_fine : (h : Float) (guess : Parameters) (m : Met) → meet_in_plane_of a b guess (add_vector_of w.p (scale_of w.t h)) w.t tol ≡ m
       → StrideFine (after_meeting a b tol dir w h m)

@@ -1,5 +1,5 @@
 -- One attempt at a stride: the body of the Rust's `while h >= tol.confusion` in `trace`. Definitions only.
-use Rattle.std.specs.Prelude.{Bool, ◌&&◌, ℕ, Float}
+use Rattle.std.specs.Prelude.{Bool, ◌&&◌, ℕ, Float, Some, None}
 use Rattle.loops.specs.Loop.{pick}
 use Rattle.number.specs.Operators.{bits, ◌⊗◌, ◌⊘◌, ◌<?◌, ◌≤?◌}
 use Rattle.number.specs.Helpers.{two, min_positive, max_of}
@@ -13,8 +13,7 @@ use Rattle.patch.specs.declared.patch.Patch.{Patch}
 use Rattle.patch.specs.declared.patch.Parameters.{Parameters}
 use Rattle.meeting.specs.declared.newton.Met.{Met}
 use Rattle.meeting.specs.declared.newton.Met.TheVariants as met
-use Rattle.tangent.specs.declared.Direction.{Direction}
-use Rattle.tangent.specs.declared.Direction.TheVariants as direction
+use Rattle.tangent.specs.Tangent.{Direction}
 use Rattle.marching.specs.declared.leaving.Exit.{Exit}
 use Rattle.marching.specs.declared.leaving.Exit.TheVariants as exit
 use Rattle.tangent.specs.Tangent.{tangent_of}
@@ -89,8 +88,8 @@ onward_of confusion w h y q ty = onward_at confusion w h y q ty (distance_of q w
 
 -- tangent(a, b, y, tol).map(|ty| ty * dir), and what follows
 abbrev pub after_tangent : Patch → Float → Float → Walker → Float → Parameters → Direction → Stride
-after_tangent a confusion dir w h y (direction.Along d) = onward_of confusion w h y (point_a a y) (scale_of d dir)
-after_tangent a confusion dir w h y direction.Missing = Nothing
+after_tangent a confusion dir w h y (Some d) = onward_of confusion w h y (point_a a y) (scale_of d dir)
+after_tangent a confusion dir w h y None = Nothing
 
 -- the tangent at the meeting, where there is one
 abbrev pub after_meeting : Patch → Patch → Tolerance → Float → Walker → Float → Met → Stride

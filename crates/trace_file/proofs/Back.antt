@@ -1,4 +1,5 @@
 -- A trace written and read again is the trace, a file read and written again is the file, and so only one file stands for a trace.
+use Rattle.std.specs.Prelude.{Ok, Err}
 use mathlib.Core.Path.{◌≡◌, refl, sym, ap, ◌∙◌}
 use mathlib.Core.List.{List, ◌++◌, append-nil}
 use Prim.Native.Nat.{ℕ, ◌*◌, ◌≤◌}
@@ -13,13 +14,10 @@ use Rattle.number.proofs.Binary64.{Binary64, take_fits}
 use Rattle.wire.specs.Wire.{AllBytes}
 use Rattle.refusal.specs.declared.Numbers.{Numbers}
 use Rattle.refusal.specs.declared.Refusal.TheVariants as refusal
-use Rattle.refusal.specs.declared.Verdict.{Verdict}
-use Rattle.refusal.specs.declared.Verdict.TheVariants as verdict
+use Rattle.refusal.specs.Verdict.{Verdict}
 use Rattle.refusal.proofs.Laws.{number_positive}
 use Rattle.refusal.proofs.Order.{first_each, asked_each, Alone}
-use Rattle.groups.specs.declared.traced.Traced.TheVariants.{Line}
 use Rattle.groups.specs.Traced.{Outcome, outcome, refusal_of, count_of, start_of, round_of, column_of, closing_of}
-use Rattle.trace_file.specs.declared.write.Written.TheVariants.{Bytes}
 use Rattle.groups.specs.Groups.{most_points}
 use Rattle.trace_file.specs.Layout.{numbers_place, greatest_code, most_width}
 use Rattle.trace_file.specs.File.{file_of, count_in, start_in, code_in, numbers_from, numbers_in, header_of, numbers_bytes, header_fits, all_finite}
@@ -60,7 +58,7 @@ module _ (version w : ℕ) (l : List Float) (d : Binary64 l) (count start code r
       }
 
   -- "Reading what was written, into room enough, returns the trace bit for bit"
-  pub written_reads : (t : List Float) → w * count ≤ length t → read_of version w file t ≡ outcome (Line count start code) (written (take (w * count) l) t)
+  pub written_reads : (t : List Float) → w * count ≤ length t → read_of version w file t ≡ outcome (line_of_three count start code) (written (take (w * count) l) t)
   unfolding read_of
   written_reads t h =
       rw (
@@ -112,7 +110,7 @@ module _ (version w : ℕ) (s : List ℕ) (d : AllBytes s) (room : ℕ) (f : Rea
         }
 
     -- "only one file stands for a trace": a file that reads, written again, is that file
-    read_writes : (u : List ℕ) → length s ≤ length u → write_of version w got (count_in s) (start_in s) (code_in s) u ≡ filed (Bytes (length s)) (written s u)
+    read_writes : (u : List ℕ) → length s ≤ length u → write_of version w got (count_in s) (start_in s) (code_in s) u ≡ filed (Ok (length s)) (written s u)
     unfolding write_of
     read_writes u h =
         rw (fit_write w got (count_in s) (start_in s) (code_in s) (length u) (writes_fit (length u) h), file_again got got_front, ← f.header.bytes)
@@ -124,12 +122,12 @@ reads : (version w : ℕ) (s : List ℕ) (t : List Float) → refusal_of (read_o
 unfolding read_of
 reads version w s t z = read_fit version w s (length t) (go (read_fitness version w s (length t)) z)
   where
-    go : (v : Verdict) → refusal_of (after_reading w s t v).answer ≡ 0 → v ≡ verdict.Passed
-    go verdict.Passed e = refl
-    go (verdict.Refused r) e = let h = number_positive r in absurd (omega arith)
+    go : (v : Verdict) → refusal_of (after_reading w s t v).answer ≡ 0 → v ≡ Ok tt
+    go (Ok u) e = refl
+    go (Err r) e = let h = number_positive r in absurd (omega arith)
 
 read_is : (version w : ℕ) (s : List ℕ) (t : List Float) → ReadFit version w s (length t)
-    → read_of version w s t ≡ outcome (Line (count_in s) (start_in s) (code_in s)) (written (numbers_in w s) t)
+    → read_of version w s t ≡ outcome (line_of_three (count_in s) (start_in s) (code_in s)) (written (numbers_in w s) t)
 unfolding read_of
 read_is version w s t f = rw (fit_read version w s (length t) f)
 
@@ -153,8 +151,8 @@ read_claim version w s t = go (read_fitness version w s (length t)) refl (read_a
   where
     go : (v : Verdict) → read_fitness version w s (length t) ≡ v → Alone v
         → (let r = (after_reading w s t v).answer in (count_of r ≤ most_points) × (start_of r ≤ most_points) × (closing_of r ≤ greatest_code) × (round_of r ≡ 0) × (column_of r ≡ 0))
-    go verdict.Passed e n = let k = claim_fits_lem (read_fit version w s (length t) e).header.claim in (k.1, omega (arith, k.1, k.2), k.3, refl, refl)
-    go (verdict.Refused r) e n = (omega arith, omega arith, omega arith, ap (λ (q : Numbers). q.round) n, ap (λ (q : Numbers). q.column) n)
+    go (Ok u) e n = let k = claim_fits_lem (read_fit version w s (length t) e).header.claim in (k.1, omega (arith, k.1, k.2), k.3, refl, refl)
+    go (Err r) e n = (omega arith, omega arith, omega arith, ap (λ (q : Numbers). q.round) n, ap (λ (q : Numbers). q.column) n)
 
 -- what is written has few bytes
 pub write_small : (version w : ℕ) (l : List Float) (count start code : ℕ) (t : List ℕ) → w ≤ most_width → bytes_of (write_of version w l count start code t).answer ≤ 8388618
@@ -162,15 +160,15 @@ unfolding write_of
 write_small version w l count start code t h = go (write_fitness w l count start code (length t)) refl
   where
     go : (v : Verdict) → write_fitness w l count start code (length t) ≡ v → bytes_of (after_writing version w l count start code t v).answer ≤ 8388618
-    go verdict.Passed e =
+    go (Ok u) e =
         let k = claim_fits_lem (write_fit w l count start code (length t) e).claim in
         let n = product_small w count h (omega (arith, k.1)) in
         omega (arith, n)
-    go (verdict.Refused r) e = omega arith
+    go (Err r) e = omega arith
 
 -- what was read, written again
 pub read_again : (version w : ℕ) (s : List ℕ) → AllBytes s → (t : List Float) → refusal_of (read_of version w s t).answer ≡ 0 → (u : List ℕ) → length s ≤ length u
-    → (let o = read_of version w s t in write_of version w o.buffer (count_of o.answer) (start_of o.answer) (closing_of o.answer) u) ≡ filed (Bytes (length s)) (written s u)
+    → (let o = read_of version w s t in write_of version w o.buffer (count_of o.answer) (start_of o.answer) (closing_of o.answer) u) ≡ filed (Ok (length s)) (written s u)
 read_again version w s d t z u h =
     let f = reads version w s t z in
     ap (λ (o : Outcome). write_of version w o.buffer (count_of o.answer) (start_of o.answer) (closing_of o.answer) u) (read_is version w s t f)

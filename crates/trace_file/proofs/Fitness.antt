@@ -1,4 +1,5 @@
 -- What a call has that refuses nothing, and that nothing else is asked.
+use Rattle.std.specs.Prelude.{Ok}
 use mathlib.Core.Path.{◌≡◌, sym, ◌∙◌}
 use mathlib.Core.Bool.{Bool, true, ◌&&◌}
 use mathlib.Core.List.{List}
@@ -9,7 +10,6 @@ use lib.Ieee.{Float}
 use lib.ListN.{length, take}
 use borrow.Author.Tests.{leb-true, le-leb, ltb-true, lt-ltb, eqb-true, eq-eqb}
 use Rattle.refusal.specs.declared.Refusal.TheVariants as refusal
-use Rattle.refusal.specs.declared.Verdict.TheVariants.{Passed}
 use Rattle.refusal.proofs.Order.{asked_held, first_passed}
 use Rattle.wire.specs.Wire.{byte_at, four_at}
 use Rattle.groups.specs.Groups.{least_points, most_points, count_fits, holds_of}
@@ -51,7 +51,7 @@ pub record WriteFit (w : ℕ) (l : List Float) (count start code room : ℕ) : T
   pub finite : all_finite (take (w * count) l) ≡ true
 
 module _ (w : ℕ) (l : List Float) (count start code room : ℕ) where
-  pub write_fit : write_fitness w l count start code room ≡ Passed → WriteFit w l count start code room
+  pub write_fit : write_fitness w l count start code room ≡ Ok tt → WriteFit w l count start code room
   unfolding write_fitness
   write_fit e =
       let s = first_passed (write_tests w l count start code room) e in
@@ -62,7 +62,7 @@ module _ (w : ℕ) (l : List Float) (count start code room : ℕ) where
         finite = asked_held (all_finite (take (w * count) l)) refusal.TraceFile s.1.1.1.0;
       }
 
-  pub fit_write : WriteFit w l count start code room → write_fitness w l count start code room ≡ Passed
+  pub fit_write : WriteFit w l count start code room → write_fitness w l count start code room ≡ Ok tt
   unfolding write_fitness holds_of
   fit_write f = rw (f.claim, le-leb (w * count) (length l) f.lent, le-leb (file_bytes w count) room f.holds, f.finite)
 
@@ -100,7 +100,7 @@ module _ (version w : ℕ) (s : List ℕ) where
       }
 
   module _ (room : ℕ) where
-    pub read_fit : read_fitness version w s room ≡ Passed → ReadFit version w s room
+    pub read_fit : read_fitness version w s room ≡ Ok tt → ReadFit version w s room
     unfolding read_fitness
     read_fit e =
         let t = first_passed (read_tests version w s room) e in
@@ -110,7 +110,7 @@ module _ (version w : ℕ) (s : List ℕ) where
           holds = leb-true (w * count_in s) room (asked_held (leb (w * count_in s) room) refusal.Lent t.1.1.0);
         }
 
-    pub fit_read : ReadFit version w s room → read_fitness version w s room ≡ Passed
+    pub fit_read : ReadFit version w s room → read_fitness version w s room ≡ Ok tt
     unfolding read_fitness header_fits length_agrees
     fit_read f =
         let h = f.header in

@@ -1,14 +1,12 @@
 -- The writer: its refusals, its answer and the lent bytes after it. Definitions only.
-use Rattle.std.specs.Prelude.{List, [], ◌∷◌, ℕ, ◌*◌, leb, length, take, Float}
+use Rattle.std.specs.Prelude.{List, [], ◌∷◌, ℕ, ◌*◌, leb, length, take, Float, Ok, Err}
 use Rattle.loops.specs.Over.{written}
 use Rattle.refusal.specs.declared.Refusal.TheVariants as refusal
 use Rattle.refusal.specs.Refusal.{number_of}
-use Rattle.refusal.specs.declared.Verdict.{Verdict}
-use Rattle.refusal.specs.declared.Verdict.TheVariants as verdict
+use Rattle.refusal.specs.Verdict.{Verdict}
 use Rattle.refusal.specs.Verdict.{asked, first_refusal}
 use Rattle.groups.specs.Groups.{holds_of}
-use Rattle.trace_file.specs.declared.write.Written.{Written}
-use Rattle.trace_file.specs.declared.write.Written.TheVariants.{Bytes, Refused}
+use Rattle.trace_file.specs.Write.{Written}
 use Rattle.trace_file.specs.Layout.{file_bytes}
 use Rattle.trace_file.specs.File.{claim_fits, all_finite, file_of}
 
@@ -23,13 +21,13 @@ filed r s = record { answer = r; file = s }
 
 -- "A refusal is its number alone"; 0 where there is none
 abbrev pub refusal_of : Written → ℕ
-refusal_of (Bytes n) = 0
-refusal_of (Refused r) = number_of r
+refusal_of (Ok n) = 0
+refusal_of (Err r) = number_of r
 
 -- how many bytes the file has
 abbrev pub bytes_of : Written → ℕ
-bytes_of (Bytes n) = n
-bytes_of (Refused r) = 0
+bytes_of (Ok n) = n
+bytes_of (Err r) = 0
 
 -- 20: the count, the start index, the code; 8: "a lent slice too short for the trace or the file; it follows the new one"; "the writer looks at numbers only
 -- after 8"
@@ -47,8 +45,8 @@ write_fitness w l count start code room = first_refusal (write_tests w l count s
 
 -- "A refusal leaves the output untouched, and so does success beyond what it writes"
 abbrev pub after_writing : ℕ → ℕ → List Float → ℕ → ℕ → ℕ → List ℕ → Verdict → Filed
-after_writing version w l count start code t (verdict.Refused r) = filed (Refused r) t
-after_writing version w l count start code t verdict.Passed = filed (Bytes (file_bytes w count)) (written (file_of version w l count start code) t)
+after_writing version w l count start code t (Err r) = filed (Err r) t
+after_writing version w l count start code t (Ok u) = filed (Ok (file_bytes w count)) (written (file_of version w l count start code) t)
 
 -- the call: its answer, and the lent bytes after it
 unfoldable pub write_of : ℕ → ℕ → List Float → ℕ → ℕ → ℕ → List ℕ → Filed

@@ -1,4 +1,5 @@
 -- 9 and 21 are the seed's alone: the tests before them have 1 to 8, and what follows a meeting has 10, 11 or a line.
+use Rattle.std.specs.Prelude.{Ok, Err, Some, None}
 use mathlib.Core.Path.{◌≡◌, refl, sym, ap}
 use mathlib.Core.Bool.{Bool, true, false}
 use mathlib.Core.List.{List, ◌++◌}
@@ -10,13 +11,11 @@ use lib.ListN.{length, replicate}
 use Rattle.loops.specs.Loop.{pick}
 use Rattle.number.specs.Helpers.{positive_zero}
 use Rattle.groups.specs.Groups.{width, least_points, holds_of}
-use Rattle.groups.specs.declared.traced.Traced.{Traced}
-use Rattle.groups.specs.declared.traced.Traced.TheVariants.{Line, Refused}
+use Rattle.groups.specs.Traced.{TraceAnswer}
 use Rattle.groups.specs.Traced.{outcome, refusal_of}
 use Rattle.refusal.specs.declared.Refusal.{Refusal}
 use Rattle.refusal.specs.declared.Refusal.TheVariants as refusal
-use Rattle.refusal.specs.declared.Verdict.{Verdict}
-use Rattle.refusal.specs.declared.Verdict.TheVariants as verdict
+use Rattle.refusal.specs.Verdict.{Verdict}
 use Rattle.refusal.specs.Refusal.{number_of}
 use Rattle.refusal.specs.Verdict as verdicts
 use Rattle.refusal.proofs.Order.{first_each, asked_each}
@@ -27,8 +26,7 @@ use Rattle.patch.proofs.Fitness.{pair_each}
 use Rattle.meeting.specs.declared.newton.Met.{Met}
 use Rattle.meeting.specs.declared.newton.Met.TheVariants as met
 use Rattle.meeting.specs.Newton.{meet_of}
-use Rattle.tangent.specs.declared.Direction.{Direction}
-use Rattle.tangent.specs.declared.Direction.TheVariants as direction
+use Rattle.tangent.specs.Tangent.{Direction}
 use Rattle.tangent.specs.Tangent.{tangent_of}
 use Rattle.walk.specs.Lent.{own_row, rows_of}
 use Rattle.walk.specs.Line.{line_of}
@@ -36,11 +34,11 @@ use Rattle.walk.specs.Line as line
 use Rattle.walk.specs.Trace.{guess_finite, cap_fits, call_tests, call_fitness, room, settled, after_direction, after_seed, walk_of, after_call, trace_of}
 
 -- a refusal is told by its answer
-abbrev refusal_in : Refusal → Traced → Refusal
-refusal_in d (Line count start closing) = d
-refusal_in d (Refused r) = r
+abbrev refusal_in : Refusal → TraceAnswer → Refusal
+refusal_in d (line_of_three count start closing) = d
+refusal_in d (Err r) = r
 
-refused_same : {p q : Refusal} → Refused p ≡ Refused q → p ≡ q
+refused_same : {p q : Refusal} → Err p ≡ Err q → p ≡ q
 refused_same {p} e = ap (refusal_in p) e
 
 -- the number's place is behind 8, and it is neither 10 nor 11
@@ -56,20 +54,20 @@ pub singular_seeds : (i col : ℕ) → Seeds (refusal.Singular i col)
 singular_seeds i col = record { behind = omega arith; not_ten = λ z. omega (arith, z); not_eleven = λ z. omega (arith, z) }
 
 module _ (a b : Patch) (tol : Tolerance) (n : ℕ) (q : Refusal) (s : Seeds q) where
-  settled_other : (m : line.Line) → (settled (own_row a) n m).answer ≡ Refused q → ⊥
+  settled_other : (m : line.Line) → (settled (own_row a) n m).answer ≡ Err q → ⊥
   unfolding settled
   settled_other m = go (leb least_points (length m.points))
     where
-      go : (t : Bool) → (pick t (outcome (Line (length m.points) m.start m.closing) (rows_of (own_row a) m.points ++ replicate (room n - width * length m.points) positive_zero))
-          (outcome (Refused refusal.TooShort) (replicate (room n) positive_zero))).answer ≡ Refused q → ⊥
+      go : (t : Bool) → (pick t (outcome (line_of_three (length m.points) m.start m.closing) (rows_of (own_row a) m.points ++ replicate (room n - width * length m.points) positive_zero))
+          (outcome (Err refusal.TooShort) (replicate (room n) positive_zero))).answer ≡ Err q → ⊥
       go true e = let z = ap refusal_of e in let h = s.behind in omega (arith, z, h)
       go false e = s.not_eleven (sym (ap refusal_of e))
 
-  direction_other : (x : Parameters) (d : Direction) → (after_direction a b tol n x d).answer ≡ Refused q → ⊥
-  direction_other x (direction.Along t) e = settled_other (line_of a b tol x t n) e
-  direction_other x direction.Missing e = s.not_ten (sym (ap refusal_of e))
+  direction_other : (x : Parameters) (d : Direction) → (after_direction a b tol n x d).answer ≡ Err q → ⊥
+  direction_other x (Some t) e = settled_other (line_of a b tol x t n) e
+  direction_other x None e = s.not_ten (sym (ap refusal_of e))
 
-  seed_told : (m : Met) → (after_seed a b tol n m).answer ≡ Refused q → m ≡ met.Refused q
+  seed_told : (m : Met) → (after_seed a b tol n m).answer ≡ Err q → m ≡ met.Refused q
   seed_told (met.At x) e = absurd (direction_other x (tangent_of a b x tol) e)
   seed_told (met.Refused r) e = ap met.Refused (refused_same e)
 
@@ -94,17 +92,17 @@ module _ (a b : Patch) (tol : Tolerance) (guess : Parameters) (n : ℕ) (l : Lis
       )
 
   -- what `meet` of the guess refuses, where no test refuses, is the answer
-  pub unmet_answer : (q : Refusal) → call_fitness a b tol guess n l ≡ verdict.Passed → meet_of a b guess tol ≡ met.Refused q → (trace_of a b tol guess n l).answer ≡ Refused q
+  pub unmet_answer : (q : Refusal) → call_fitness a b tol guess n l ≡ Ok tt → meet_of a b guess tol ≡ met.Refused q → (trace_of a b tol guess n l).answer ≡ Err q
   unfolding trace_of walk_of
   unmet_answer q f m = rw (f, m)
 
   -- and such an answer comes of nothing else
-  pub answer_unmet : (q : Refusal) → Seeds q → (trace_of a b tol guess n l).answer ≡ Refused q
-      → (call_fitness a b tol guess n l ≡ verdict.Passed) × (meet_of a b guess tol ≡ met.Refused q)
+  pub answer_unmet : (q : Refusal) → Seeds q → (trace_of a b tol guess n l).answer ≡ Err q
+      → (call_fitness a b tol guess n l ≡ Ok tt) × (meet_of a b guess tol ≡ met.Refused q)
   unfolding trace_of walk_of
   answer_unmet q s = go (call_fitness a b tol guess n l) refl call_early
     where
-      go : (v : Verdict) → call_fitness a b tol guess n l ≡ v → Early v → (after_call a b tol guess n l v).answer ≡ Refused q
-          → (call_fitness a b tol guess n l ≡ verdict.Passed) × (meet_of a b guess tol ≡ met.Refused q)
-      go (verdict.Refused p) f h e = absurd (let z = ap refusal_of e in let k = s.behind in omega (arith, h, z, k))
-      go verdict.Passed f h e = (f, seed_told a b tol n q s (meet_of a b guess tol) e)
+      go : (v : Verdict) → call_fitness a b tol guess n l ≡ v → Early v → (after_call a b tol guess n l v).answer ≡ Err q
+          → (call_fitness a b tol guess n l ≡ Ok tt) × (meet_of a b guess tol ≡ met.Refused q)
+      go (Err p) f h e = absurd (let z = ap refusal_of e in let k = s.behind in omega (arith, h, z, k))
+      go (Ok u) f h e = (f, seed_told a b tol n q s (meet_of a b guess tol) e)

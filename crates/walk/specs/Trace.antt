@@ -1,11 +1,10 @@
 -- The call: its refusals, its answer and the lent buffer after it. Definitions only.
-use Rattle.std.specs.Prelude.{Bool, ◌&&◌, List, [], ◌∷◌, ◌++◌, ℕ, ◌+◌, ◌*◌, ◌-◌, leb, Float, length, take, drop, replicate}
+use Rattle.std.specs.Prelude.{Bool, ◌&&◌, List, [], ◌∷◌, ◌++◌, ℕ, ◌+◌, ◌*◌, ◌-◌, leb, Float, length, take, drop, replicate, Ok, Err, Some, None}
 use Rattle.std.specs.Float.Ieee.Scale.{finite}
 use Rattle.loops.specs.Loop.{pick}
 use Rattle.groups.specs.Groups.{width, least_points, holds_of}
 use Rattle.groups.specs.declared.row.Row.{Row}
-use Rattle.groups.specs.declared.traced.Traced.{Traced}
-use Rattle.groups.specs.declared.traced.Traced.TheVariants.{Line, Refused}
+use Rattle.groups.specs.Traced.{TraceAnswer}
 use Rattle.groups.specs.Traced.{Outcome, outcome}
 use Rattle.number.specs.Helpers.{positive_zero}
 use Rattle.refusal.specs.declared.Refusal.{Refusal}
@@ -13,14 +12,12 @@ use Rattle.refusal.specs.declared.Refusal.TheVariants as refusal
 use Rattle.geometry.specs.declared.tolerance.Tolerance.{Tolerance}
 use Rattle.patch.specs.declared.patch.Patch.{Patch}
 use Rattle.patch.specs.declared.patch.Parameters.{Parameters}
-use Rattle.refusal.specs.declared.Verdict.{Verdict}
-use Rattle.refusal.specs.declared.Verdict.TheVariants as verdict
+use Rattle.refusal.specs.Verdict.{Verdict}
 use Rattle.refusal.specs.Verdict.{asked, first_refusal}
 use Rattle.patch.specs.Pair.{pair_fitness}
 use Rattle.meeting.specs.declared.newton.Met.{Met}
 use Rattle.meeting.specs.declared.newton.Met.TheVariants as met
-use Rattle.tangent.specs.declared.Direction.{Direction}
-use Rattle.tangent.specs.declared.Direction.TheVariants as direction
+use Rattle.tangent.specs.Tangent.{Direction}
 use Rattle.tangent.specs.Tangent.{tangent_of}
 use Rattle.meeting.specs.Newton.{meet_of}
 use Rattle.walk.specs.Lent.{own_row, rows_of}
@@ -63,13 +60,13 @@ room n = width * (2 * n + 1)
 
 -- "Refusals 9, 10 and 11 leave its first 7(2n+1) numbers positive zero."; 02, A2: "Buffer rules for 9 cover the split number"
 abbrev pub refused_walk : Refusal → ℕ → Outcome
-refused_walk r n = outcome (Refused r) (replicate (room n) positive_zero)
+refused_walk r n = outcome (Err r) (replicate (room n) positive_zero)
 
 -- 11: "fewer than 4 points"; "Success puts seven numbers a point first"; "zeros follow up to 7(2n+1)": here up to `size`
 abbrev pub line_or_refused : ℕ → ℕ → ℕ → List Float → ℕ → Outcome
 line_or_refused count start closing rows size =
-    pick (leb least_points count) (outcome (Line count start closing) (rows ++ replicate (size - width * count) positive_zero))
-    (outcome (Refused refusal.TooShort) (replicate size positive_zero))
+    pick (leb least_points count) (outcome (line_of_three count start closing) (rows ++ replicate (size - width * count) positive_zero))
+    (outcome (Err refusal.TooShort) (replicate size positive_zero))
 
 -- of a list that begins with the line's points
 unfoldable pub finished_of : ℕ → ℕ → ℕ → List Float → Outcome
@@ -81,13 +78,13 @@ settled row n found = line_or_refused (length found.points) found.start found.cl
 
 -- 10: "no direction at the meeting"
 abbrev pub after_direction : Patch → Patch → Tolerance → ℕ → Parameters → Direction → Outcome
-after_direction a b tol n x (direction.Along t) = settled (own_row a) n (line_of a b tol x t n)
-after_direction a b tol n x direction.Missing = refused_walk refusal.NoDirection n
+after_direction a b tol n x (Some t) = settled (own_row a) n (line_of a b tol x t n)
+after_direction a b tol n x None = refused_walk refusal.NoDirection n
 
 -- the answer where no walk begins: the meeting's refusal; a meeting alone is one point, and so has "fewer than 4 points"
-abbrev pub unwalked_of : Met → Traced
-unwalked_of (met.At x) = Refused refusal.TooShort
-unwalked_of (met.Refused r) = Refused r
+abbrev pub unwalked_of : Met → TraceAnswer
+unwalked_of (met.At x) = Err refusal.TooShort
+unwalked_of (met.Refused r) = Err r
 
 -- 9: "the guess leads to no meeting"; "a caller goes on only with it, else 9"; 02, A2: "21, in the place of 9, when a solve gave up"
 abbrev pub after_seed : Patch → Patch → Tolerance → ℕ → Met → Outcome
@@ -102,8 +99,8 @@ walk_of a b tol guess n = after_seed a b tol n (meet_of a b guess tol)
 
 -- a refusal of 1 to 8, or what the walk answers and leaves
 abbrev pub after_call : Patch → Patch → Tolerance → Parameters → ℕ → List Float → Verdict → Outcome
-after_call a b tol guess n l (verdict.Refused r) = outcome (Refused r) l
-after_call a b tol guess n l verdict.Passed = outcome (walk_of a b tol guess n).answer ((walk_of a b tol guess n).buffer ++ drop (room n) l)
+after_call a b tol guess n l (Err r) = outcome (Err r) l
+after_call a b tol guess n l (Ok u) = outcome (walk_of a b tol guess n).answer ((walk_of a b tol guess n).buffer ++ drop (room n) l)
 
 -- the call: its answer, and the whole buffer after it
 unfoldable pub trace_of : Patch → Patch → Tolerance → Parameters → ℕ → List Float → Outcome

@@ -5,9 +5,9 @@ use Rattle.capi.proofs.checked_word.Goals as goal
 pub refused_word-requires : goal.refused_word-requires
 refused_word-requires c = (rw c.numbers-n.ensures (number_fits c.in-Refused.refusal), rw c.numbers-n.ensures (refusal_fits c.in-Refused.is c.requires))
 
-pub returns-in-Passed : goal.returns-in-Passed
+pub returns-in-Ok : goal.returns-in-Ok
 unfolding checked_word
-returns-in-Passed c = rw c.in-Passed.is
+returns-in-Ok c = rw c.in-Ok.is
 
 pub returns-in-Refused : goal.returns-in-Refused
 unfolding checked_word

@@ -7,7 +7,7 @@ use Rattle.boxes.proofs.crossing.crossing.Goals as goal
 pub crosses-requires : goal.crosses-requires
 crosses-requires c =
     let g = c.args in
-    let h = tests_fit g.tol g.points.now g.count g.b (sym c.crossing_fitness-fitness.ensures ∙ c.in-Passed.is) in
+    let h = tests_fit g.tol g.points.now g.count g.b (sym c.crossing_fitness-fitness.ensures ∙ c.in-Ok.is) in
     let low = h.least in
     (omega (arith, low), h.most, h.lent)
 
@@ -17,8 +17,8 @@ returns-in-Refused c = rw (← c.crossing_fitness-fitness.ensures, c.in-Refused.
 
 pub returns-then-crosses : goal.returns-then-crosses
 unfolding crossing_of
-returns-then-crosses c = rw (← c.crossing_fitness-fitness.ensures, c.in-Passed.is, ← c.crosses.ensures, c.if-crosses.true)
+returns-then-crosses c = rw (← c.crossing_fitness-fitness.ensures, c.in-Ok.is, ← c.crosses.ensures, c.if-crosses.true)
 
 pub returns-else-crosses : goal.returns-else-crosses
 unfolding crossing_of
-returns-else-crosses c = rw (← c.crossing_fitness-fitness.ensures, c.in-Passed.is, ← c.crosses.ensures, c.if-crosses.false)
+returns-else-crosses c = rw (← c.crossing_fitness-fitness.ensures, c.in-Ok.is, ← c.crosses.ensures, c.if-crosses.false)

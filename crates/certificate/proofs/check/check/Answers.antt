@@ -7,13 +7,13 @@ use Rattle.certificate.proofs.check.check.Goals as goal
 
 pub returns-then-not-holds : goal.returns-then-not-holds
 unfolding check_of
-returns-then-not-holds c = rw (← c.pair_fitness-pair.ensures, c.in-Passed.is, ← c.holds.ensures, not-true c.holds.result c.if-not-holds.true-raw)
+returns-then-not-holds c = rw (← c.pair_fitness-pair.ensures, c.in-Ok.is, ← c.holds.ensures, not-true c.holds.result c.if-not-holds.true-raw)
 
 pub returns-then-not-claim_so : goal.returns-then-not-claim_so
 unfolding check_of
 returns-then-not-claim_so c =
     let held = not-false c.holds.result c.if-not-holds.false-raw in
-    rw (← c.pair_fitness-pair.ensures, c.in-Passed.is, ← c.holds.ensures, held, ← c.claim_so.ensures, not-true c.claim_so.result c.if-not-claim_so.true-raw)
+    rw (← c.pair_fitness-pair.ensures, c.in-Ok.is, ← c.holds.ensures, held, ← c.claim_so.ensures, not-true c.claim_so.result c.if-not-claim_so.true-raw)
 
 pub returns-in-Refused : goal.returns-in-Refused
 unfolding check_of
@@ -23,4 +23,4 @@ pub returns-else-not-claim_so : goal.returns-else-not-claim_so
 unfolding check_of
 returns-else-not-claim_so c =
     let held = not-false c.holds.result c.if-not-holds.false-raw in let so = not-false c.claim_so.result c.if-not-claim_so.false-raw in
-    rw (← c.pair_fitness-pair.ensures, c.in-Passed.is, ← c.holds.ensures, held, ← c.claim_so.ensures, so) (c.points_verdict.ensures ∙ sym (last_test_lem _))
+    rw (← c.pair_fitness-pair.ensures, c.in-Ok.is, ← c.holds.ensures, held, ← c.claim_so.ensures, so) (c.points_verdict.ensures ∙ sym (last_test_lem _))

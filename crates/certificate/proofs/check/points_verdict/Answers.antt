@@ -20,7 +20,7 @@ returns-in-Refused c =
 pub loop-i-preserved : goal.loop-i-preserved
 loop-i-preserved c =
     let g = c.args in
-    let on = point_on_lem g.a g.b g.confusion (row_of g.points.now) g.count g.closing c.loop-i.i c.loop-i.invariant.1 c.row_of-row.ensures c.point_verdict-verdict.ensures c.in-Passed.is in
+    let on = point_on_lem g.a g.b g.confusion (row_of g.points.now) g.count g.closing c.loop-i.i c.loop-i.invariant.1 c.row_of-row.ensures c.point_verdict-verdict.ensures c.in-Ok.is in
     (searched_again _ all_passed c.loop-i.i g.count c.loop-i-test.true on c.loop-i.invariant.0, row_kept (row_of g.points.now) c.loop-i.i c.row_of-row.ensures, omega (arith, c.loop-i-test.true))
 
 pub returns : goal.returns

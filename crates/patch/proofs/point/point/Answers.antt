@@ -1,30 +1,34 @@
-use mathlib.Core.Path.{refl, sym, ap, ◌∙◌}
-use borrow.Author.Tests.{not-false, not-true}
-use Rattle.loops.proofs.Choice.{pick_taken, pick_left}
-use Rattle.patch.specs.declared.point.Located.TheVariants.{At}
+use Rattle.std.proofs.Common.{◌≡◌, Ok, Err, true, sym, ap, ◌∙◌, rules}
+use Rattle.std.specs.Float.Ieee.Scale.{finite}
+use Rattle.refusal.specs.declared.Refusal.TheVariants as refusal
+use Rattle.refusal.proofs.Order.{asked_held, asked_failed, asked_as}
 use Rattle.patch.specs.Located.{located_of}
 use Rattle.patch.proofs.point.point.Goals as goal
 
-pub returns-then-not-is_finite : goal.returns-then-not-is_finite
+pub returns-in_err-fitness : goal.returns-in_err-fitness
 unfolding located_of
-returns-then-not-is_finite c =
-    rw (← c.fitness-fitness.ensures, c.in-Passed.is)
-    (pick_left _ (sym c.is_finite.ensures ∙ not-true _ c.if-not-is_finite.true-raw) refl)
+returns-in_err-fitness c =
+    let e : c.from_residual.result ≡ Err c.in_err-fitness.field-0.0 = search rules in
+    rw (e, ← c.fitness.ensures, c.in_err-fitness.was)
 
-pub returns-then-not-is_finite-2 : goal.returns-then-not-is_finite-2
+pub returns-in_err-asked : goal.returns-in_err-asked
 unfolding located_of
-returns-then-not-is_finite-2 c =
-    rw (← c.fitness-fitness.ensures, c.in-Passed.is)
-    (pick_taken _ (sym c.is_finite.ensures ∙ not-false _ c.if-not-is_finite.false-raw)
-    (pick_left _ (sym c.is_finite-in-Passed.ensures ∙ not-true _ c.if-not-is_finite-2.true-raw) refl))
+returns-in_err-asked c =
+    let e : c.from_residual-in_err-asked.result ≡ Err c.in_err-asked.field-0.0 = search rules in
+    let f = asked_failed (finite c.args.u) refusal.Parameter (sym (asked_as refusal.Parameter c.asked.ensures c.is_finite.ensures) ∙ c.in_err-asked.was) in
+    rw (e, ← c.fitness.ensures, c.in_ok-fitness.was, f.0, f.1)
 
-pub returns-in-Refused : goal.returns-in-Refused
+pub returns-in_err-asked-2 : goal.returns-in_err-asked-2
 unfolding located_of
-returns-in-Refused c = rw (← c.fitness-fitness.ensures, c.in-Refused.is)
+returns-in_err-asked-2 c =
+    let e : c.from_residual-in_err-asked-2.result ≡ Err c.in_err-asked-2.field-0.0 = search rules in
+    let u = asked_held (finite c.args.u) refusal.Parameter (sym (asked_as refusal.Parameter c.asked.ensures c.is_finite.ensures) ∙ c.in_ok-asked.was) in
+    let f = asked_failed (finite c.args.v) refusal.Parameter (sym (asked_as refusal.Parameter c.asked-2.ensures c.is_finite-2.ensures) ∙ c.in_err-asked-2.was) in
+    rw (e, ← c.fitness.ensures, c.in_ok-fitness.was, u, f.0, f.1)
 
-pub returns-else-not-is_finite-2 : goal.returns-else-not-is_finite-2
+pub returns : goal.returns
 unfolding located_of
-returns-else-not-is_finite-2 c =
-    rw (← c.fitness-fitness.ensures, c.in-Passed.is)
-    (pick_taken _ (sym c.is_finite.ensures ∙ not-false _ c.if-not-is_finite.false-raw)
-    (pick_taken _ (sym c.is_finite-in-Passed.ensures ∙ not-false _ c.if-not-is_finite-2.false-raw) (ap At c.eval_point.ensures)))
+returns c =
+    let u = asked_held (finite c.args.u) refusal.Parameter (sym (asked_as refusal.Parameter c.asked.ensures c.is_finite.ensures) ∙ c.in_ok-asked.was) in
+    let v = asked_held (finite c.args.v) refusal.Parameter (sym (asked_as refusal.Parameter c.asked-2.ensures c.is_finite-2.ensures) ∙ c.in_ok-asked-2.was) in
+    rw (c.eval_point.ensures, ← c.fitness.ensures, c.in_ok-fitness.was, u, v)

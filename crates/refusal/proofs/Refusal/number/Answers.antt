@@ -3,4 +3,4 @@ use Rattle.refusal.specs.declared.Numbers.{Numbers}
 use Rattle.refusal.proofs.Refusal.number.Goals as goal
 
 pub returns : goal.returns
-returns c = ap (λ (n : Numbers). n.number) c.numbers-n.ensures
+returns c = ap (λ (n : Numbers). n.number) c.numbers.ensures

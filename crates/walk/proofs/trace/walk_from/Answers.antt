@@ -1,4 +1,5 @@
 -- A law for each way out, from what the meeting and the tangent say.
+use Rattle.std.specs.Prelude.{Err, Some, None}
 use mathlib.Core.Path.{◌≡◌, refl, sym, ap, ◌∙◌}
 use mathlib.Core.List.{List, ◌++◌}
 use Prim.Native.Nat.{ℕ, ◌-◌}
@@ -13,12 +14,10 @@ use Rattle.patch.specs.declared.patch.Patch.{Patch}
 use Rattle.patch.specs.declared.patch.Parameters.{Parameters}
 use Rattle.meeting.specs.declared.newton.Met.TheVariants as met
 use Rattle.meeting.specs.Newton.{meet_of}
-use Rattle.tangent.specs.declared.Direction.TheVariants as direction
 use Rattle.tangent.specs.Tangent.{tangent_of}
 use Rattle.walk.specs.Lent.{own_row}
 use Rattle.walk.specs.Line.{line_of}
-use Rattle.groups.specs.declared.traced.Traced.{Traced}
-use Rattle.groups.specs.declared.traced.Traced.TheVariants.{Refused}
+use Rattle.groups.specs.Traced.{TraceAnswer}
 use Rattle.groups.specs.Traced.{outcome}
 use Rattle.walk.specs.Trace.{room, refused_walk, settled, unwalked_of, walk_of}
 use Rattle.walk.proofs.Lists.{cleared}
@@ -29,18 +28,18 @@ module _ (a b : Patch) (tol : Tolerance) (guess : Parameters) (n : ℕ) where
   unfolding walk_of
   unmet r m = rw m
 
-  ten : (x : Parameters) → meet_of a b guess tol ≡ met.At x → tangent_of a b x tol ≡ direction.Missing → refused_walk refusal.NoDirection n ≡ walk_of a b tol guess n
+  ten : (x : Parameters) → meet_of a b guess tol ≡ met.At x → tangent_of a b x tol ≡ None → refused_walk refusal.NoDirection n ≡ walk_of a b tol guess n
   unfolding walk_of
   ten x m d = rw (m, d)
 
-  along : (x : Parameters) (t : Vector3D) → meet_of a b guess tol ≡ met.At x → tangent_of a b x tol ≡ direction.Along t → settled (own_row a) n (line_of a b tol x t n) ≡ walk_of a b tol guess n
+  along : (x : Parameters) (t : Vector3D) → meet_of a b guess tol ≡ met.At x → tangent_of a b x tol ≡ Some t → settled (own_row a) n (line_of a b tol x t n) ≡ walk_of a b tol guess n
   unfolding walk_of
   along x t m d = rw (m, d)
 
 -- a refusal leaves zeros
-zeros : (l : List Float) (n : ℕ) {m : List Float} {t : Traced} (r : Refusal) → t ≡ Refused r → length l ≡ room n → m ≡ take 0 l ++ replicate (length l - 0) positive_zero
+zeros : (l : List Float) (n : ℕ) {m : List Float} {t : TraceAnswer} (r : Refusal) → t ≡ Err r → length l ≡ room n → m ≡ take 0 l ++ replicate (length l - 0) positive_zero
     → outcome t m ≡ refused_walk r n
-zeros l n r f h e = rw f (ap (outcome (Refused r)) (e ∙ cleared l ∙ ap (λ (k : ℕ). replicate k positive_zero) h))
+zeros l n r f h e = rw f (ap (outcome (Err r)) (e ∙ cleared l ∙ ap (λ (k : ℕ). replicate k positive_zero) h))
 
 pub returns-in_default : goal.returns-in_default
 returns-in_default c =
