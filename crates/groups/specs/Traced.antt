@@ -1,8 +1,30 @@
 -- What is answered of a trace in a lent list, and the list with it. Definitions only.
-use Rattle.std.specs.Prelude.{List, ℕ, Float, Err}
+use Rattle.std.specs.Prelude.{List, ℕ, eqb, Float, Option, Some, None, Result, Ok, Err}
+use Rattle.loops.specs.Loop.{pick}
+use Rattle.refusal.specs.declared.Refusal.{Refusal}
 use Rattle.refusal.specs.Refusal.{number_of}
 use Rattle.refusal.specs.Refusal as refusal
-use Rattle.groups.specs.Traced.{TraceAnswer}
+use Rattle.groups.specs.declared.traced.Closing.{Closing}
+use Rattle.groups.specs.declared.traced.Closing.TheVariants.{Open, Forward, Backward}
+use Rattle.groups.specs.declared.traced.Traced.{Traced}
+
+-- "the closing code: 0 open, 1 closed forward, 2 closed backward"
+abbrev pub code_of : Closing → ℕ
+code_of Open = 0
+code_of Forward = 1
+code_of Backward = 2
+
+-- the closing of a code; "closing code above 2" has none
+abbrev pub closing_at : ℕ → Option Closing
+closing_at code = pick (eqb code 0) (Some Open) (pick (eqb code 1) (Some Forward) (pick (eqb code 2) (Some Backward) None))
+
+-- the trace, or why it is refused
+abbrev pub TraceAnswer : Type 0
+TraceAnswer = Result Traced Refusal
+
+-- "The answer holds the count, the start's index and the closing code"
+abbrev pub traced : ℕ → ℕ → Closing → TraceAnswer
+traced count start closing = Ok (record { count = count; start = start; closing = closing })
 
 -- an answer and what the buffer holds with it
 pub record Outcome : Type 0 where
@@ -15,30 +37,30 @@ outcome r l = record { answer = r; buffer = l }
 
 -- "A refusal is its number alone"; 0 where there is none
 abbrev pub refusal_of : TraceAnswer → ℕ
-refusal_of (line_of_three count start closing) = 0
+refusal_of (Ok t) = 0
 refusal_of (Err r) = number_of r
 
 -- "The answer holds the count, the start's index and the closing code": the count
 abbrev pub count_of : TraceAnswer → ℕ
-count_of (line_of_three count start closing) = count
+count_of (Ok t) = t.count
 count_of (Err r) = 0
 
 -- the start's index
 abbrev pub start_of : TraceAnswer → ℕ
-start_of (line_of_three count start closing) = start
+start_of (Ok t) = t.start
 start_of (Err r) = 0
 
 -- 02, A2: the Newton round beside 9 or 21
 abbrev pub round_of : TraceAnswer → ℕ
-round_of (line_of_three count start closing) = 0
+round_of (Ok t) = 0
 round_of (Err r) = refusal.round_of r
 
 -- 02, A3: the column beside 21
 abbrev pub column_of : TraceAnswer → ℕ
-column_of (line_of_three count start closing) = 0
+column_of (Ok t) = 0
 column_of (Err r) = refusal.column_of r
 
 -- the closing code
 abbrev pub closing_of : TraceAnswer → ℕ
-closing_of (line_of_three count start closing) = closing
+closing_of (Ok t) = code_of t.closing
 closing_of (Err r) = 0

@@ -1,13 +1,43 @@
-use refusal::Refusal;
+ghost use Rattle.std.specs.Prelude.{◌≡◌};
+ghost use Rattle.groups.specs.Traced.{code_of, closing_at};
 
-// What is answered of a trace, by the walk or by a file's reader: the count of points, the start's index and the closing code (0 open,
-// 1 closed forward, 2 closed backward), or why it is refused.
+// How a line ends: open, or come round to its start in its forward or in its backward half.
 #[derive(Clone, Copy)]
-pub enum Traced {
-    Line {
-        count: usize,
-        start: usize,
-        closing: usize,
-    },
-    Refused(Refusal),
+pub enum Closing {
+    Open,
+    Forward,
+    Backward,
+}
+
+impl Closing {
+    // The closing code.
+    pub fn code(self) -> usize
+        ensures { result ≡ code_of self }
+    {
+        match self {
+            Closing::Open => 0,
+            Closing::Forward => 1,
+            Closing::Backward => 2,
+        }
+    }
+
+    // The closing of a code; a code above 2 has none.
+    pub fn of_code(code: usize) -> Option<Closing>
+        ensures { result ≡ closing_at code }
+    {
+        match code {
+            0 => Some(Closing::Open),
+            1 => Some(Closing::Forward),
+            2 => Some(Closing::Backward),
+            _ => None,
+        }
+    }
+}
+
+// What is answered of a trace, by the walk or by a file's reader: how many points it has, which of them is the start, and its closing.
+#[derive(Clone, Copy)]
+pub struct Traced {
+    pub count: usize,
+    pub start: usize,
+    pub closing: Closing,
 }
