@@ -6,43 +6,40 @@ use patch::{Parameters, Patch, Window};
 
 // The parameter that a move takes out of its window first, and the bound that it oversteps.
 #[derive(Clone, Copy)]
-pub enum Exit {
-    Nowhere,
-    At { index: usize, bound: f64 },
+pub struct Exit {
+    pub index: usize,
+    pub bound: f64,
 }
 
 // The exit found so far, with the fraction of the move at which it lies.
 #[derive(Clone, Copy)]
-enum First {
-    Nothing,
-    At {
-        index: usize,
-        bound: f64,
-        fraction: f64,
-    },
+struct First {
+    index: usize,
+    bound: f64,
+    fraction: f64,
 }
 
 // The lesser of the exit so far and another; the one so far on a tie, and also where either fraction is a NaN.
-fn lesser(first: First, index: usize, bound: f64, fraction: f64) -> First
+fn lesser(first: Option<First>, index: usize, bound: f64, fraction: f64) -> Option<First>
     ensures { result ≡ lesser_of first index bound fraction }
 {
-    let other = First::At {
+    let other = Some(First {
         index,
         bound,
         fraction,
-    };
-    let First::At {
-        fraction: least,
-        ..
-    } = first
-    else {
+    });
+    let Some(found) = first else {
         return other;
     };
-    if fraction < least { other } else { first }
+    if fraction < found.fraction {
+        other
+    } else {
+        first
+    }
 }
 
 // The first exit so far, with parameter k taken into account, which moves from x to y.
-fn consider(first: First, window: Window, k: usize, x: f64, y: f64) -> First
+fn consider(first: Option<First>, window: Window, k: usize, x: f64, y: f64) -> Option<First>
     ensures { result ≡ consider_of first window k x y }
 {
     if window.turn {
@@ -60,26 +57,21 @@ fn consider(first: First, window: Window, k: usize, x: f64, y: f64) -> First
 }
 
 // The first exit of the four parameters in turn.
-fn first_exit(a: Patch, b: Patch, x: Parameters, y: Parameters) -> First
+fn first_exit(a: Patch, b: Patch, x: Parameters, y: Parameters) -> Option<First>
     ensures { result ≡ first_exit a b x y }
 {
-    let u1 = a.u;
-    let v1 = a.v;
-    let u2 = b.u;
-    let v2 = b.v;
-    let f0 = consider(First::Nothing, u1, 0, x.u1, y.u1);
-    let f1 = consider(f0, v1, 1, x.v1, y.v1);
-    let f2 = consider(f1, u2, 2, x.u2, y.u2);
-    consider(f2, v2, 3, x.v2, y.v2)
+    let f0 = consider(None, a.u, 0, x.u1, y.u1);
+    let f1 = consider(f0, a.v, 1, x.v1, y.v1);
+    let f2 = consider(f1, b.u, 2, x.u2, y.u2);
+    consider(f2, b.v, 3, x.v2, y.v2)
 }
 
-// The parameter that the straight move from x to y takes out of its window first, and that bound.
-pub fn leaving(a: Patch, b: Patch, x: Parameters, y: Parameters) -> Exit
+// The parameter that the straight move from x to y takes out of its window first, and that bound; none where it leaves no window.
+pub fn leaving(a: Patch, b: Patch, x: Parameters, y: Parameters) -> Option<Exit>
     ensures { result ≡ leaving_of a b x y }
 {
-    let first = first_exit(a, b, x, y);
-    match first {
-        First::Nothing => Exit::Nowhere,
-        First::At { index, bound, .. } => Exit::At { index, bound },
-    }
+    first_exit(a, b, x, y).map(|f| Exit {
+        index: f.index,
+        bound: f.bound,
+    })
 }

@@ -10,13 +10,6 @@ ghost use Rattle.tangent.specs.Tangent.{normal_of, unit_cross, tangent_of};
 use geometry::{Tolerance, Vector3D};
 use patch::{Parameters, Patch};
 
-// The unit tangent, or that the surfaces are too nearly parallel for one.
-#[derive(Clone, Copy)]
-pub enum Direction {
-    Along(Vector3D),
-    Missing,
-}
-
 // The largest moderate number, 2^20.
 const MOST: f64 = 1048576.0;
 
@@ -24,11 +17,8 @@ const MOST: f64 = 1048576.0;
 fn normal(patch: Patch, u: f64, v: f64) -> Vector3D
     ensures { result ≡ normal_of patch u v }
 {
-    let surface = patch.surface;
-    let d = surface.eval_d1(u, v);
-    let du = d.u;
-    let dv = d.v;
-    du.cross(dv)
+    let d = patch.surface.eval_d1(u, v);
+    d.u.cross(d.v)
 }
 
 // From the smallest normal number to 2^20.
@@ -57,20 +47,20 @@ fn parallel(a: f64, b: f64, length: f64, angular: f64) -> bool
 }
 
 // The unit vector along na x nb, unless that is too short beside |na||nb|.
-fn unit_cross(na: Vector3D, nb: Vector3D, angular: f64) -> Direction
+fn unit_cross(na: Vector3D, nb: Vector3D, angular: f64) -> Option<Vector3D>
     ensures { result ≡ unit_cross na nb angular }
 {
     let t = na.cross(nb);
     let length = t.magnitude();
     if parallel(na.dot(na), nb.dot(nb), length, angular) {
-        Direction::Missing
+        None
     } else {
-        Direction::Along(t.scale(1.0 / length))
+        Some(t.scale(1.0 / length))
     }
 }
 
-// The unit tangent of the curve at x.
-pub fn tangent(a: Patch, b: Patch, x: Parameters, tol: Tolerance) -> Direction
+// The unit tangent of the curve at x; none where the surfaces are too nearly parallel.
+pub fn tangent(a: Patch, b: Patch, x: Parameters, tol: Tolerance) -> Option<Vector3D>
     ensures { result ≡ tangent_of a b x tol }
 {
     let na = normal(a, x.u1, x.v1);

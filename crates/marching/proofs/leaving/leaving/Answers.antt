@@ -1,10 +1,10 @@
-use Rattle.marching.specs.Leaving.{leaving_of}
+use Rattle.std.proofs.Common.{◌≡◌, rules}
+use Rattle.std.specs.Prelude.{option_map}
+use Rattle.marching.specs.Leaving.{exit_of, leaving_of}
 use Rattle.marching.proofs.leaving.leaving.Goals as goal
 
-pub returns-in-Nothing : goal.returns-in-Nothing
+pub returns : goal.returns
 unfolding leaving_of
-returns-in-Nothing c = rw (← c.first_exit-first.ensures, c.in-Nothing.is)
-
-pub returns-in-At : goal.returns-in-At
-unfolding leaving_of
-returns-in-At c = rw (← c.first_exit-first.ensures, c.in-At.is)
+returns c =
+    let e : c.map.result ≡ option_map exit_of c.first_exit.result = search rules in
+    rw (e, c.first_exit.ensures)

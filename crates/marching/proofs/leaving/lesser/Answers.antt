@@ -7,10 +7,10 @@ pub returns-in_default : goal.returns-in_default
 unfolding lesser_of
 returns-in_default c = rw c.in_default.is
 
-pub returns-then-fraction-least : goal.returns-then-fraction-least
+pub returns-then-fraction-found : goal.returns-then-fraction-found
 unfolding lesser_of
-returns-then-fraction-least c = rw c.in-At.is (pick_taken _ c.if-fraction-least.true refl)
+returns-then-fraction-found c = rw c.in-Some.is (pick_taken _ c.if-fraction-found.true refl)
 
-pub returns-else-fraction-least : goal.returns-else-fraction-least
+pub returns-else-fraction-found : goal.returns-else-fraction-found
 unfolding lesser_of
-returns-else-fraction-least c = rw c.in-At.is (pick_left _ c.if-fraction-least.false refl)
+returns-else-fraction-found c = rw c.in-Some.is (pick_left _ c.if-fraction-found.false refl)
