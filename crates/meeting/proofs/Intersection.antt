@@ -1,4 +1,5 @@
 -- Whatever the surfaces and the guess, under a fit tolerance every meeting and every landing is an intersection.
+use Rattle.std.proofs.Common.{Option, Some, None, Break}
 use mathlib.Core.Path.{◌≡◌, refl, ap, ◌∙◌, subst}
 use mathlib.Core.Bool.{Bool, true, false, ◌&&◌}
 use Prim.Native.Nat.{ℕ}
@@ -34,9 +35,6 @@ use Rattle.meeting.specs.declared.correction.Correction.{Correction}
 use Rattle.meeting.specs.declared.correction.Correction.TheVariants as correction
 use Rattle.meeting.specs.declared.newton.Met.{Met}
 use Rattle.meeting.specs.declared.newton.Met.TheVariants.{At, Refused}
-use Rattle.meeting.specs.declared.newton.Trial.{Trial}
-use Rattle.meeting.specs.declared.newton.Trial.TheVariants as trial
-use Rattle.meeting.specs.declared.newton.Round.TheVariants as round
 use Rattle.meeting.specs.Correction.{parameter_of, with_parameter, residual_of, correction_of, all_shifted, shifted_of}
 use Rattle.patch.specs.Located.{point_a, point_b}
 use Rattle.meeting.specs.Newton.{near_of, trial_body, most_trials, no_trial, trials_of, last_test, after_trials, after_solve, newton_round}
@@ -73,10 +71,10 @@ module _ (a b : Patch) (target : Target) (confusion : Float) (tight : T (tenth �
 
   -- ---- a trial that is taken, a round, and all rounds keep that
 
-  TrialOwn : Trial → Type 0
+  TrialOwn : Option Residual → Type 0
   unfolding Own
-  TrialOwn (trial.Better t) = Own t
-  TrialOwn trial.Nothing = T true
+  TrialOwn (Some t) = Own t
+  TrialOwn None = T true
 
   trials_own : (s : Residual) (d : Parameters) → Own s → TrialOwn (trials_of a b target s d)
   unfolding trials_of TrialOwn
@@ -87,7 +85,7 @@ module _ (a b : Patch) (target : Target) (confusion : Float) (tight : T (tenth �
           let y = within_bounds a b (shifted_of target s.x d scale) in
           go ((residual_of a b target y).merit <? s.merit) (residual_of a b target y) (residual_own y (moved s.x d scale o.1))
         where
-          go : (better : Bool) (t : Residual) → Own t → Kept (λ scale. T true) TrialOwn (pick better (out (trial.Better t)) (on (scale ⊗ half)))
+          go : (better : Bool) (t : Residual) → Own t → Kept (λ scale. T true) TrialOwn (pick better (out (Some t)) (on (scale ⊗ half)))
           go true t o = o
           go false t o = tt
 
@@ -103,10 +101,10 @@ module _ (a b : Patch) (target : Target) (confusion : Float) (tight : T (tenth �
   unfolding Own Holds
   KeptOwn = Kept Own Holds
 
-  after_trials_lem : (i : ℕ) (s : Residual) → Own s → (r : Trial) → TrialOwn r → KeptOwn (going_on (after_trials a b confusion i s r))
+  after_trials_lem : (i : ℕ) (s : Residual) → Own s → (r : Option Residual) → TrialOwn r → KeptOwn (going_on (after_trials a b confusion i s r))
   unfolding TrialOwn KeptOwn
-  after_trials_lem i s o (trial.Better t) h = h
-  after_trials_lem i s o trial.Nothing h = last_good i s o
+  after_trials_lem i s o (Some t) h = h
+  after_trials_lem i s o None h = last_good i s o
 
   after_correction : (i : ℕ) (s : Residual) → Own s → (r : Correction) → KeptOwn (going_on (after_solve a b target confusion i s r))
   unfolding KeptOwn
@@ -118,7 +116,7 @@ module _ (a b : Patch) (target : Target) (confusion : Float) (tight : T (tenth �
   round_good i s o = go (near_of a b s (tenth ⊗ confusion)) (λ t. near_good s (tenth ⊗ confusion) o tight t)
     where
       go : (near : Bool) → (T near → IsIntersection a b confusion s.x × H s.x)
-          → KeptOwn (going_on (pick near (round.End (At s.x)) (after_solve a b target confusion i s (correction_of a b target s))))
+          → KeptOwn (going_on (pick near (Break (At s.x)) (after_solve a b target confusion i s (correction_of a b target s))))
       go true g = g tt
       go false g = after_correction i s o (correction_of a b target s)
 

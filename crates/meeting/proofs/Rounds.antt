@@ -1,4 +1,5 @@
 -- A meeting fails with 9 in a round of at most 32, or with 21 in one of at most 31 and at a column of its matrix.
+use Rattle.std.proofs.Common.{Option, Some, None, Break}
 use mathlib.Core.Path.{◌≡◌, refl, ap, subst}
 use mathlib.Core.Bool.{Bool, true, false}
 use mathlib.Core.Logic.{inl, inr, ⊎_elim}
@@ -26,9 +27,6 @@ use Rattle.meeting.specs.declared.correction.Correction.{Correction}
 use Rattle.meeting.specs.declared.correction.Correction.TheVariants as correction
 use Rattle.meeting.specs.declared.newton.Met.{Met}
 use Rattle.meeting.specs.declared.newton.Met.TheVariants.{At, Refused}
-use Rattle.meeting.specs.declared.newton.Trial.{Trial}
-use Rattle.meeting.specs.declared.newton.Trial.TheVariants as trial
-use Rattle.meeting.specs.declared.newton.Round.TheVariants as round
 use Rattle.meeting.specs.Correction.{residual_of, columns_of, normal_matrix, minus, minimum_norm, free_correction, by_four, plane_correction, by_three, pin_correction, correction_of}
 use Rattle.meeting.specs.Newton.{near_of, trials_of, last_test, after_trials, after_solve, newton_round, most_rounds, going_on, round_body, newton_of}
 use Rattle.meeting.specs.Newton.{meet_of, Unmet, MetPromise}
@@ -79,9 +77,9 @@ module _ (a b : Patch) (target : Target) (confusion : Float) where
   abbrev Told : Flow Residual Met → Type 0
   Told = Kept (λ (s : Residual). Unit {0}) (Reason (unknowns target))
 
-  trials_reason : (i : ℕ) (s : Residual) (r : Trial) → i < most_rounds → Told (going_on (after_trials a b confusion i s r))
-  trials_reason i s (trial.Better t) h = tt
-  trials_reason i s trial.Nothing h = last_reason i s (omega (arith, h))
+  trials_reason : (i : ℕ) (s : Residual) (r : Option Residual) → i < most_rounds → Told (going_on (after_trials a b confusion i s r))
+  trials_reason i s (Some t) h = tt
+  trials_reason i s None h = last_reason i s (omega (arith, h))
 
   solve_reason : (i : ℕ) (s : Residual) (r : Correction) → i < most_rounds → Within (unknowns target) r → Told (going_on (after_solve a b target confusion i s r))
   unfolding Reason Within
@@ -92,7 +90,7 @@ module _ (a b : Patch) (target : Target) (confusion : Float) where
   unfolding newton_round Reason
   round_reason i s h = go (near_of a b s (tenth ⊗ confusion))
     where
-      go : (near : Bool) → Told (going_on (pick near (round.End (At s.x)) (after_solve a b target confusion i s (correction_of a b target s))))
+      go : (near : Bool) → Told (going_on (pick near (Break (At s.x)) (after_solve a b target confusion i s (correction_of a b target s))))
       go true = tt
       go false = solve_reason i s (correction_of a b target s) h (correction_within a b target s)
 

@@ -1,5 +1,7 @@
 -- `meet` and `land` of marching.rs. Definitions only.
-use Rattle.std.specs.Prelude.{◌≡◌, Bool, ◌&&◌, ◌⊎◌, ℕ, ◌≤◌, ◌<◌, Float}
+use Rattle.std.specs.Prelude.{◌≡◌, Bool, ◌&&◌, ◌⊎◌, ℕ, ◌≤◌, ◌<◌, Float, Option, Some, None}
+use Rattle.std.specs.declared.ops.ControlFlow.{ControlFlow}
+use Rattle.std.specs.declared.ops.ControlFlow.TheVariants.{Continue, Break}
 use Rattle.loops.specs.Loop.{pick, Flow, on, out, searched}
 use Rattle.number.specs.Operators.{◌⊗◌, ◌<?◌, ◌≤?◌}
 use Rattle.number.specs.Helpers.{one, half, tenth, abs_of}
@@ -20,10 +22,6 @@ use Rattle.meeting.specs.declared.correction.Correction.{Correction}
 use Rattle.meeting.specs.declared.correction.Correction.TheVariants as correction
 use Rattle.meeting.specs.declared.newton.Met.{Met}
 use Rattle.meeting.specs.declared.newton.Met.TheVariants.{At, Refused}
-use Rattle.meeting.specs.declared.newton.Trial.{Trial}
-use Rattle.meeting.specs.declared.newton.Trial.TheVariants as trial
-use Rattle.meeting.specs.declared.newton.Round.{Round}
-use Rattle.meeting.specs.declared.newton.Round.TheVariants as round
 use Rattle.meeting.specs.Correction.{with_parameter, residual_of, correction_of, shifted_of}
 
 -- gap and plane offset at most a bound; "Both tests also ask that every parameter lie inside its window where that has no turn mark"
@@ -33,11 +31,11 @@ near_of a b s bound = magnitude_of s.f ≤? bound && (abs_of s.r ≤? bound && i
 -- ---- "up to 12 trials with halved scale, the first with strictly smaller merit taken"
 
 -- "the first with strictly smaller merit taken", else half the scale
-abbrev pub trial_at : Residual → Residual → Float → Flow Float Trial
-trial_at s t scale = pick (t.merit <? s.merit) (out (trial.Better t)) (on (scale ⊗ half))
+abbrev pub trial_at : Residual → Residual → Float → Flow Float (Option Residual)
+trial_at s t scale = pick (t.merit <? s.merit) (out (Some t)) (on (scale ⊗ half))
 
 -- a trial: the correction scaled, clamped to the windows, its residual
-abbrev pub trial_body : Patch → Patch → Target → Residual → Parameters → ℕ → Float → Flow Float Trial
+abbrev pub trial_body : Patch → Patch → Target → Residual → Parameters → ℕ → Float → Flow Float (Option Residual)
 trial_body a b target s d i scale = trial_at s (residual_of a b target (within_bounds a b (shifted_of target s.x d scale))) scale
 
 -- "up to 12 trials"
@@ -45,15 +43,15 @@ abbrev pub most_trials : ℕ
 most_trials = 12
 
 -- the trials are spent, none was better
-abbrev pub no_trial : Float → Trial
-no_trial scale = trial.Nothing
+abbrev pub no_trial : Float → Option Residual
+no_trial scale = None
 
 -- the trials from the i-th on
-abbrev pub trials_from : Patch → Patch → Target → Residual → Parameters → ℕ → Float → Trial
+abbrev pub trials_from : Patch → Patch → Target → Residual → Parameters → ℕ → Float → Option Residual
 trials_from a b target s d i scale = searched (trial_body a b target s d) no_trial i most_trials (on scale)
 
 -- all trials, from the scale 1.0
-unfoldable pub trials_of : Patch → Patch → Target → Residual → Parameters → Trial
+unfoldable pub trials_of : Patch → Patch → Target → Residual → Parameters → Option Residual
 trials_of a b target s d = trials_from a b target s d 0 one
 
 -- ---- one round
@@ -63,20 +61,20 @@ unfoldable pub last_test : Patch → Patch → Float → ℕ → Residual → Me
 last_test a b confusion i s = pick (near_of a b s confusion) (At s.x) (Refused (refusal.NoMeeting i))
 
 -- "Without one the rounds end."
-abbrev pub after_trials : Patch → Patch → Float → ℕ → Residual → Trial → Round
-after_trials a b confusion i s (trial.Better t) = round.Next t
-after_trials a b confusion i s trial.Nothing = round.End (last_test a b confusion i s)
+abbrev pub after_trials : Patch → Patch → Float → ℕ → Residual → Option Residual → ControlFlow Met Residual
+after_trials a b confusion i s (Some t) = Continue t
+after_trials a b confusion i s None = Break (last_test a b confusion i s)
 
 -- "A failed solve refuses, even where that last test would pass."; 02, A2: "with 21, in the place of 9, when a solve gave up";
 -- A3: the column at which it did is handed on
-abbrev pub after_solve : Patch → Patch → Target → Float → ℕ → Residual → Correction → Round
+abbrev pub after_solve : Patch → Patch → Target → Float → ℕ → Residual → Correction → ControlFlow Met Residual
 after_solve a b target confusion i s (correction.By d) = after_trials a b confusion i s (trials_of a b target s d)
-after_solve a b target confusion i s (correction.Singular col) = round.End (Refused (refusal.Singular i col))
+after_solve a b target confusion i s (correction.Singular col) = Break (Refused (refusal.Singular i col))
 
 -- "accepted at once when gap and plane offset are at most a tenth of confusion; else a solve, and up to 12 trials"
-unfoldable pub newton_round : Patch → Patch → Target → Float → ℕ → Residual → Round
+unfoldable pub newton_round : Patch → Patch → Target → Float → ℕ → Residual → ControlFlow Met Residual
 newton_round a b target confusion i s =
-    pick (near_of a b s (tenth ⊗ confusion)) (round.End (At s.x)) (after_solve a b target confusion i s (correction_of a b target s))
+    pick (near_of a b s (tenth ⊗ confusion)) (Break (At s.x)) (after_solve a b target confusion i s (correction_of a b target s))
 
 -- ---- the rounds
 
@@ -85,9 +83,9 @@ abbrev pub most_rounds : ℕ
 most_rounds = 32
 
 -- what a round says to the loop
-abbrev pub going_on : Round → Flow Residual Met
-going_on (round.Next t) = on t
-going_on (round.End m) = out m
+abbrev pub going_on : ControlFlow Met Residual → Flow Residual Met
+going_on (Continue t) = on t
+going_on (Break m) = out m
 
 -- the round of index i, "from 0"
 abbrev pub round_body : Patch → Patch → Target → Float → ℕ → Residual → Flow Residual Met

@@ -7,6 +7,7 @@ use crate::parameters::with_parameter;
 use geometry::{Point3D, Tolerance, Vector3D};
 use patch::{Parameters, Patch, inside, within_bounds};
 use refusal::Refusal;
+use std::ops::ControlFlow;
 
 // The most trials of a correction, and the most rounds.
 const MOST_TRIALS: usize = 12;
@@ -14,50 +15,34 @@ const MOST_TRIALS: usize = 12;
 const MOST_ROUNDS: u64 = 32;
 
 // Where the surfaces were met, or why they were not.
+// Kept (1): document 01 gives the form "let Met::At(seed) = meet(..) else return refusal".
 #[derive(Clone, Copy)]
 pub enum Met {
     At(Parameters),
     Refused(Refusal),
 }
 
-// The first trial with strictly smaller merit, if there is one.
-#[derive(Clone, Copy)]
-pub enum Trial {
-    Better(Residual),
-    Nothing,
-}
-
-// What a round gives: the residual to go on with, or the answer.
-#[derive(Clone, Copy)]
-pub enum Round {
-    Next(Residual),
-    End(Met),
-}
-
 // Whether the gap and the plane offset are at most the bound, every parameter inside its window.
 fn near(a: Patch, b: Patch, s: Residual, bound: f64) -> bool
     ensures { result ≡ near_of a b s bound }
 {
-    let f = s.f;
-    let x = s.x;
-    f.magnitude_at_most(bound) && (number::abs(s.r) <= bound && inside(a, b, x))
+    s.f.magnitude_at_most(bound) && (number::abs(s.r) <= bound && inside(a, b, s.x))
 }
 
-// The trials, each with half the scale of the one before.
-fn trials(a: Patch, b: Patch, target: Target, s: Residual, d: Parameters) -> Trial
+// The trials, each with half the scale of the one before: the first with strictly smaller merit, if there is one.
+fn trials(a: Patch, b: Patch, target: Target, s: Residual, d: Parameters) -> Option<Residual>
     ensures { result ≡ trials_of a b target s d }
 {
-    let x = s.x;
     let mut scale = 1.0;
     for _ in 0..MOST_TRIALS {
-        let y = within_bounds(a, b, shifted(target, x, d, scale));
+        let y = within_bounds(a, b, shifted(target, s.x, d, scale));
         let t = residual_at(a, b, target, y);
         if t.merit < s.merit {
-            return Trial::Better(t);
+            return Some(t);
         }
         scale = scale * 0.5;
     }
-    Trial::Nothing
+    None
 }
 
 // The last test, against confusion itself, of rounds that end in this one.
@@ -65,14 +50,13 @@ fn last_test(a: Patch, b: Patch, confusion: f64, round: u64, s: Residual) -> Met
     ensures { result ≡ last_test a b confusion round s }
 {
     if near(a, b, s, confusion) {
-        let x = s.x;
-        Met::At(x)
+        Met::At(s.x)
     } else {
         Met::Refused(Refusal::NoMeeting(round))
     }
 }
 
-// One round: accepted at once, or a correction and its trials.
+// One round: accepted at once, or a correction and its trials. It gives the residual to go on with, or the answer.
 fn newton_round(
     a: Patch,
     b: Patch,
@@ -80,24 +64,22 @@ fn newton_round(
     confusion: f64,
     round: u64,
     s: Residual,
-) -> Round
+) -> ControlFlow<Met, Residual>
     ensures { result ≡ newton_round a b target confusion round s }
 {
     if near(a, b, s, 0.1 * confusion) {
-        let x = s.x;
-        return Round::End(Met::At(x));
+        return ControlFlow::Break(Met::At(s.x));
     }
     let correction = newton_correction(a, b, target, s);
     match correction {
         Correction::Singular(column) => {
-            Round::End(Met::Refused(Refusal::Singular { round, column }))
+            ControlFlow::Break(Met::Refused(Refusal::Singular { round, column }))
         }
         Correction::By(d) => {
-            let trial = trials(a, b, target, s, d);
-            let Trial::Better(t) = trial else {
-                return Round::End(last_test(a, b, confusion, round, s));
+            let Some(t) = trials(a, b, target, s, d) else {
+                return ControlFlow::Break(last_test(a, b, confusion, round, s));
             };
-            Round::Next(t)
+            ControlFlow::Continue(t)
         }
     }
 }
@@ -108,12 +90,11 @@ fn newton(a: Patch, b: Patch, target: Target, x: Parameters, confusion: f64) -> 
 {
     let mut s = residual_at(a, b, target, x);
     for i in 0..MOST_ROUNDS {
-        let round = newton_round(a, b, target, confusion, i, s);
-        match round {
-            Round::End(met) => {
+        match newton_round(a, b, target, confusion, i, s) {
+            ControlFlow::Break(met) => {
                 return met;
             }
-            Round::Next(t) => {
+            ControlFlow::Continue(t) => {
                 s = t;
             }
         }

@@ -1,3 +1,4 @@
+use Rattle.std.proofs.Common.{Break}
 use mathlib.Core.Path.{◌≡◌, sym, ap, ◌∙◌}
 use mathlib.Core.Bool.{Bool}
 use lib.Ieee.{Float}
@@ -5,7 +6,6 @@ use Rattle.number.specs.Operators.{◌⊗◌}
 use Rattle.number.specs.Helpers.{tenth}
 use Rattle.patch.specs.declared.patch.Patch.{Patch}
 use Rattle.meeting.specs.declared.correction.Residual.{Residual}
-use Rattle.meeting.specs.declared.newton.Round.TheVariants as round
 use Rattle.meeting.specs.Newton.{near_of, newton_round}
 use Rattle.meeting.proofs.newton.newton_round.Goals as goal
 
@@ -20,13 +20,13 @@ returns-then-near c = rw (at_once _ _ _ _ c.near.ensures c.if-near.true)
 pub returns-in_default : goal.returns-in_default
 unfolding newton_round
 returns-in_default c =
-    rw (at_once _ _ _ _ c.near.ensures c.if-near.false, ← c.newton_correction-correction.ensures, c.in-By.is, ← c.trials-trial.ensures)
-    (rw c.in_default.is (ap round.End c.last_test.ensures))
+    rw (at_once _ _ _ _ c.near.ensures c.if-near.false, ← c.newton_correction-correction.ensures, c.in-By.is, ← c.trials.ensures)
+    (rw c.in_default.is (ap Break c.last_test.ensures))
 
 pub returns-in-Singular : goal.returns-in-Singular
 unfolding newton_round
 returns-in-Singular c = rw (at_once _ _ _ _ c.near.ensures c.if-near.false, ← c.newton_correction-correction.ensures, c.in-Singular.is)
 
-pub returns-in-Better : goal.returns-in-Better
+pub returns-in-Some : goal.returns-in-Some
 unfolding newton_round
-returns-in-Better c = rw (at_once _ _ _ _ c.near.ensures c.if-near.false, ← c.newton_correction-correction.ensures, c.in-By.is, ← c.trials-trial.ensures, c.in-Better.is)
+returns-in-Some c = rw (at_once _ _ _ _ c.near.ensures c.if-near.false, ← c.newton_correction-correction.ensures, c.in-By.is, ← c.trials.ensures, c.in-Some.is)
