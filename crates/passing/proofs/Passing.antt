@@ -1,5 +1,6 @@
 -- Every line that the call answers passes, in the buffer that it leaves.
-use Rattle.std.specs.Prelude.{Ok, Err, Some, None}
+use Rattle.geometry.specs.declared.vector.Vector3D.{Vector3D}
+use Rattle.std.specs.Prelude.{Ok, Err, Some, None, Option}
 use mathlib.Core.Path.{◌≡◌, refl}
 use mathlib.Core.Bool.{Bool, true, false}
 use mathlib.Core.List.{List, ◌++◌, append_assoc}
@@ -21,7 +22,6 @@ use Rattle.patch.specs.declared.patch.Parameters.{Parameters}
 use Rattle.meeting.specs.declared.newton.Met.{Met}
 use Rattle.meeting.specs.declared.newton.Met.TheVariants as met
 use Rattle.meeting.specs.Newton.{meet_of}
-use Rattle.tangent.specs.Tangent.{Direction}
 use Rattle.tangent.specs.Tangent.{tangent_of}
 use Rattle.meeting.specs.Intersection.{IsIntersection}
 use Rattle.meeting.proofs.Intersection.{meet_intersects}
@@ -61,7 +61,7 @@ module _ {a b : Patch} {tol : Tolerance} {n : ℕ} {l : List Float} (f : CallFit
       go true e q = rw (append_assoc rows zeros (drop (room n) l)) (line_passes f x v (zeros ++ drop (room n) l) (leb-true least_points (length m.points) e))
       go false e q = absurd (let z : ⊥ = omega arith in z)
 
-  direction_passing : (x : Parameters) → IsIntersection a b tol.confusion x → (d : Direction) → Passing (after_direction a b tol n x d)
+  direction_passing : (x : Parameters) → IsIntersection a b tol.confusion x → (d : Option Vector3D) → Passing (after_direction a b tol n x d)
   direction_passing x g (Some t) = settled_passing x (line_of a b tol x t n) (line_fine a b tol f.tolerance x g t n)
   direction_passing x g None = λ q. absurd (let z : ⊥ = omega arith in z)
 

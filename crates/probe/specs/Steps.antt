@@ -1,12 +1,12 @@
 -- What the probes of the walk's steps answer and write. Definitions only.
-use Rattle.std.specs.Prelude.{List, ℕ, ◌+◌, ◌*◌, eqb, get_or, set, Float, Some, None}
+use Rattle.geometry.specs.declared.vector.Vector3D.{Vector3D}
+use Rattle.std.specs.Prelude.{List, ℕ, ◌+◌, ◌*◌, eqb, get_or, set, Float, Some, None, Option}
 use Rattle.std.specs.Float.{nan}
 use Rattle.loops.specs.Loop.{pick}
 use Rattle.probe.specs.Probe.{Probed, probed, or_short}
 use Rattle.probe.specs.Call.{point_from, vector_from, parameters_from, call_from, put_three, put_parameters}
 use Rattle.probe.specs.declared.call.Call.{Call}
 use Rattle.refusal.specs.Refusal.{number_of, round_of, column_of}
-use Rattle.tangent.specs.Tangent.{Direction}
 use Rattle.marching.specs.declared.leaving.Exit.{Exit}
 use Rattle.marching.specs.declared.leaving.Exit.TheVariants as exit
 use Rattle.meeting.specs.declared.newton.Met.{Met}
@@ -17,7 +17,7 @@ use Rattle.marching.specs.Leaving.{leaving_of}
 use Rattle.meeting.specs.Newton.{meet_of, meet_in_plane_of, land_of}
 
 -- 1 and the direction, or 0
-abbrev pub written_direction : Direction → List Float → Probed
+abbrev pub written_direction : Option Vector3D → List Float → Probed
 written_direction (Some d) t = probed 1 (put_three t 0 d.x d.y d.z)
 written_direction None t = probed 0 t
 

@@ -1,4 +1,5 @@
 -- The walk asks for no stride above 0.1, and 37 halvings leave none untried: under a fit tolerance any number from 37 on gives the same.
+use Rattle.std.specs.Prelude.{Option, Some, None}
 use mathlib.Core.Path.{◌≡◌, refl, sym, ap, ◌∙◌}
 use mathlib.Core.Logic.{inl, inr}
 use mathlib.Core.Bool.{Bool, true, false, not}
@@ -27,7 +28,6 @@ use Rattle.gap.proofs.Gap.{fit_tolerance, least_under}
 use Rattle.patch.specs.declared.patch.Patch.{Patch}
 use Rattle.step.specs.declared.attempt.Walker.{Walker}
 use Rattle.step.specs.declared.attempt.Stride.{Stride}
-use Rattle.step.specs.declared.attempt.Stride.TheVariants.{Inner, Edge, Nothing}
 use Rattle.step.specs.Attempt.{attempt_of}
 use Rattle.step.specs.Shorten.{longest_stride, after_attempt, stride_body, no_stride, halvings, most_halvings, stride_of}
 use Rattle.step.specs.Closing.{first_stride, next_stride}
@@ -109,29 +109,28 @@ module _ (a b : Patch) (tol : Tolerance) (dir : Float) (w : Walker) (fit : T (to
   low : T (least_confusion ≤? tol.confusion)
   low = (fit_tolerance tol fit).0
 
-  abbrev Going : ℕ → Flow Float Stride → Type 0
-  Going i = Kept (Halved tol.confusion i) (λ (r : Stride). T true)
+  abbrev Going : ℕ → Flow Float (Option Stride) → Type 0
+  Going i = Kept (Halved tol.confusion i) (λ (r : Option Stride). T true)
 
   goes : (i : ℕ) (h : Float) → Halved tol.confusion i h → Going (i + 1) (stride_body a b tol dir w i h)
   goes i h v = choice (tol.confusion ≤? h) refl
     where
-      after : T (tol.confusion ≤? h) → (r : Stride) → Going (i + 1) (after_attempt h r)
-      after l (Inner next length) = tt
-      after l (Edge y q) = tt
-      after l Nothing = again tol.confusion low i h v l
+      after : T (tol.confusion ≤? h) → (r : Option Stride) → Going (i + 1) (after_attempt h r)
+      after l (Some stride) = tt
+      after l None = again tol.confusion low i h v l
 
-      choice : (t : Bool) → (tol.confusion ≤? h) ≡ t → Going (i + 1) (pick t (after_attempt h (attempt_of a b tol dir w h)) (out Nothing))
+      choice : (t : Bool) → (tol.confusion ≤? h) ≡ t → Going (i + 1) (pick t (after_attempt h (attempt_of a b tol dir w h)) (out None))
       choice true e = after (passes _ e) (attempt_of a b tol dir w h)
       choice false e = tt
 
-  abbrev run : ℕ → ℕ → Flow Float Stride → Stride
+  abbrev run : ℕ → ℕ → Flow Float (Option Stride) → Option Stride
   run i n x = searched (stride_body a b tol dir w) no_stride i n x
 
   -- after 37 halvings, however many may follow, no stride is left
-  spent : (n i : ℕ) (h : Float) → Halved tol.confusion i h → 37 ≤ i → i ≤ n → halvings a b tol dir w i n h ≡ Nothing
+  spent : (n i : ℕ) (h : Float) → Halved tol.confusion i h → 37 ≤ i → i ≤ n → halvings a b tol dir w i n h ≡ None
   spent n i h v l k = choice (tol.confusion ≤? h) refl
     where
-      choice : (t : Bool) → (tol.confusion ≤? h) ≡ t → halvings a b tol dir w i n h ≡ Nothing
+      choice : (t : Bool) → (tol.confusion ≤? h) ≡ t → halvings a b tol dir w i n h ≡ None
       choice true e = absurd (not-le_of_lt (below tol.confusion low i h v (passes _ e)) l)
       choice false e = elim (eq-or-lt_of_le k) [
         | inl d ↦ searched_end (stride_body a b tol dir w) no_stride i n h (le_of_eq (sym d))
@@ -142,7 +141,7 @@ module _ (a b : Patch) (tol : Tolerance) (dir : Float) (w : Walker) (fit : T (to
   unfolding stride_of
   enough n h l f s = go 37 0 refl (on h) (whole tol.confusion low h f s)
     where
-      go : (k i : ℕ) → i + k ≡ 37 → (x : Flow Float Stride) → Going i x → run i n x ≡ run i most_halvings x
+      go : (k i : ℕ) → i + k ≡ 37 → (x : Flow Float (Option Stride)) → Going i x → run i n x ≡ run i most_halvings x
       go zero i e (on h) v = spent n i h v (omega arith) (omega arith) ∙ sym (spent 37 i h v (omega arith) (omega arith))
       go zero i e (out r) v = searched_out _ _ i n r ∙ sym (searched_out _ _ i 37 r)
       go (suc k) i e (on h) v =

@@ -1,6 +1,6 @@
 -- What every step of the walk keeps: a new point is A's own for its parameters, under a fit tolerance an intersection, and its computed
 -- chord from the last is at most 0.2; a half closes only when it holds 3 points.
-use Rattle.std.specs.Prelude.{Some, None}
+use Rattle.std.specs.Prelude.{Some, None, Option}
 use mathlib.Core.Path.{◌≡◌, refl, subst}
 use mathlib.Core.Bool.{Bool, true, false}
 use Prim.Native.Nat.{ℕ, ◌≤◌}
@@ -22,9 +22,7 @@ use Rattle.patch.specs.declared.patch.Patch.{Patch}
 use Rattle.patch.specs.declared.patch.Parameters.{Parameters}
 use Rattle.meeting.specs.declared.newton.Met.{Met}
 use Rattle.meeting.specs.declared.newton.Met.TheVariants as met
-use Rattle.tangent.specs.Tangent.{Direction}
 use Rattle.marching.specs.declared.leaving.Exit.{Exit}
-use Rattle.marching.specs.declared.leaving.Exit.TheVariants as exit
 use Rattle.tangent.specs.Tangent.{tangent_of}
 use Rattle.marching.specs.Leaving.{leaving_of}
 use Rattle.patch.specs.Located.{point_a}
@@ -53,10 +51,10 @@ unfolding kept_of
 kept_chord chord h t = and_r (chord ≤? two ⊗ h) _ t
 
 module _ (a b : Patch) (tol : Tolerance) (dir : Float) (w : Walker) where
-  abbrev StrideFine : Stride → Type 0
-  StrideFine (stride.Inner next length) = Fine a b tol w.p next.x next.p
-  StrideFine (stride.Edge y q) = Fine a b tol w.p y q
-  StrideFine stride.Nothing = T true
+  abbrev StrideFine : Option Stride → Type 0
+  StrideFine (Some (stride.Inner next length)) = Fine a b tol w.p next.x next.p
+  StrideFine (Some (stride.Edge y q)) = Fine a b tol w.p y q
+  StrideFine None = T true
 
   abbrev Good : Parameters → Type 0
   Good y = T (tolerance_fit tol) → IsIntersection a b tol.confusion y
@@ -66,7 +64,7 @@ module _ (a b : Patch) (tol : Tolerance) (dir : Float) (w : Walker) where
   edge_chord h q t = kept_chord _ h (and_r (bits 0 ≤? dot_of (difference_of q w.p) w.t) _ t)
 
   landing : (h : Float) (y : Parameters) → Good y → (t : Bool) → landing_kept w h (point_a a y) ≡ t
-      → StrideFine (pick t (stride.Edge y (point_a a y)) stride.Nothing)
+      → StrideFine (pick t (Some (stride.Edge y (point_a a y))) None)
   landing h y g true e = record { own = refl; good = g; chord = edge_chord h (point_a a y) (passes _ e) }
   landing h y g false e = tt
 
@@ -86,11 +84,11 @@ module _ (a b : Patch) (tol : Tolerance) (dir : Float) (w : Walker) where
       go chord turned d = at (accepted_of tol.confusion w h ty chord turned) refl
         where
           at : (t : Bool) → accepted_of tol.confusion w h ty chord turned ≡ t
-              → StrideFine (pick t (stride.Inner (next_walker y (point_a a y) ty chord turned) h) stride.Nothing)
+              → StrideFine (pick t (Some (stride.Inner (next_walker y (point_a a y) ty chord turned) h)) None)
           at true e = record { own = refl; good = g; chord = subst (λ (l : Float). T (l ≤? longest_chord)) d (accepted_chord h ty chord turned (passes _ e)) }
           at false e = tt
 
-  tangent_fine : (h : Float) (y : Parameters) → Good y → (d : Direction) → StrideFine (after_tangent a tol.confusion dir w h y d)
+  tangent_fine : (h : Float) (y : Parameters) → Good y → (d : Option Vector3D) → StrideFine (after_tangent a tol.confusion dir w h y d)
   tangent_fine h y g (Some d) = onward_fine h y (scale_of d dir) g
   tangent_fine h y g None = tt
 
@@ -100,10 +98,10 @@ module _ (a b : Patch) (tol : Tolerance) (dir : Float) (w : Walker) where
       tangent_fine h y (λ fit. meet_in_plane_intersects a b tol fit guess y (add_vector_of w.p (scale_of w.t h)) w.t e) (tangent_of a b y tol)
   meeting_fine h guess (met.Refused r) e = tt
 
-  towards_fine : (h : Float) (guess : Parameters) (e : Exit) → StrideFine (towards a b tol dir w h guess e)
+  towards_fine : (h : Float) (guess : Parameters) (e : Option Exit) → StrideFine (towards a b tol dir w h guess e)
   unfolding inner_of landed_of
-  towards_fine h guess exit.Nowhere = meeting_fine h guess _ refl
-  towards_fine h guess (exit.At pin bound) = landed_fine h guess pin bound _ refl
+  towards_fine h guess None = meeting_fine h guess _ refl
+  towards_fine h guess (Some e) = landed_fine h guess e.index e.bound _ refl
 
   attempt_fine : (h : Float) → StrideFine (attempt_of a b tol dir w h)
   unfolding attempt_of
@@ -112,12 +110,12 @@ module _ (a b : Patch) (tol : Tolerance) (dir : Float) (w : Walker) where
   body_fine : (i : ℕ) (h : Float) → T true → Kept (λ (s : Float). T true) StrideFine (stride_body a b tol dir w i h)
   body_fine i h s = choice (tol.confusion ≤? h)
     where
-      after : (r : Stride) → StrideFine r → Kept (λ (s : Float). T true) StrideFine (after_attempt h r)
-      after (stride.Inner next length) f = f
-      after (stride.Edge y q) f = f
-      after stride.Nothing f = tt
+      after : (r : Option Stride) → StrideFine r → Kept (λ (s : Float). T true) StrideFine (after_attempt h r)
+      after (Some (stride.Inner next length)) f = f
+      after (Some (stride.Edge y q)) f = f
+      after None f = tt
 
-      choice : (t : Bool) → Kept (λ (s : Float). T true) StrideFine (pick t (after_attempt h (attempt_of a b tol dir w h)) (out stride.Nothing))
+      choice : (t : Bool) → Kept (λ (s : Float). T true) StrideFine (pick t (after_attempt h (attempt_of a b tol dir w h)) (out None))
       choice true = after (attempt_of a b tol dir w h) (attempt_fine h)
       choice false = tt
 
@@ -161,7 +159,7 @@ pub step_fine : (a b : Patch) (tol : Tolerance) (dir : Float) (start : Point3D) 
 unfolding step_of
 step_fine a b tol dir start held w h = after (stride_of a b tol dir w h) (stride_fine a b tol dir w h)
   where
-    after : (s : Stride) → StrideFine a b tol dir w s → SteppedFine a b tol held w.p (after_stride tol.confusion start held w.p s)
-    after (stride.Inner next length) f = inner_fine a b tol held w.p start next length f
-    after (stride.Edge y q) f = edge_fine a b tol held w.p y q f
-    after stride.Nothing f = tt
+    after : (s : Option Stride) → StrideFine a b tol dir w s → SteppedFine a b tol held w.p (after_stride tol.confusion start held w.p s)
+    after (Some (stride.Inner next length)) f = inner_fine a b tol held w.p start next length f
+    after (Some (stride.Edge y q)) f = edge_fine a b tol held w.p y q f
+    after None f = tt

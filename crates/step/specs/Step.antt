@@ -1,5 +1,5 @@
 -- One step of a half. Definitions only.
-use Rattle.std.specs.Prelude.{Bool, ◌&&◌, ℕ, leb, Float}
+use Rattle.std.specs.Prelude.{Bool, ◌&&◌, ℕ, leb, Float, Option, Some, None}
 use Rattle.loops.specs.Loop.{pick}
 use Rattle.number.specs.Operators.{bits, ◌⊗◌, ◌<?◌}
 use Rattle.number.specs.Helpers.{tenth, max_of}
@@ -38,10 +38,10 @@ inner_step confusion start held p next h =
     pick (came_round confusion start held p next.p) (Closed (near_start start p h)) (Onward next (next_stride confusion h next.curvature))
 
 -- what a stride says
-abbrev pub after_stride : Float → Point3D → ℕ → Point3D → Stride → Stepped
-after_stride confusion start held p (stride.Inner next length) = inner_step confusion start held p next length
-after_stride confusion start held p (stride.Edge y q) = edge_step confusion p y q
-after_stride confusion start held p stride.Nothing = Ended
+abbrev pub after_stride : Float → Point3D → ℕ → Point3D → Option Stride → Stepped
+after_stride confusion start held p (Some (stride.Inner next length)) = inner_step confusion start held p next length
+after_stride confusion start held p (Some (stride.Edge y q)) = edge_step confusion p y q
+after_stride confusion start held p None = Ended
 
 -- what one iteration of the Rust's `for _ in 0..2000` comes to; the points are kept in `half_step`
 unfoldable pub step_of : Patch → Patch → Tolerance → Float → Point3D → ℕ → Walker → Float → Stepped

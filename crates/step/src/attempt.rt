@@ -4,13 +4,12 @@ ghost use Rattle.step.specs.Attempt.{kept_of, landing_kept, turn_of, near_curve,
 
 use geometry::point::LONGEST_CHORD;
 use geometry::{Point3D, Tolerance, Vector3D};
-use marching::Exit;
 use marching::leaving::leaving;
 use marching::predict::predict;
 use meeting::Met;
 use meeting::newton::{land, meet_in_plane};
 use patch::{Parameters, Patch};
-use tangent::{Direction, tangent};
+use tangent::tangent;
 
 // Chord deviation allowed per step, in multiples of confusion.
 pub const CHORD_DEVIATION: f64 = 1000.0;
@@ -30,13 +29,11 @@ pub struct Walker {
     pub curvature: f64,
 }
 
-// What a stride leads to: a point within the windows, where the half stands next, with the stride's length; a point on a window's edge; or
-// nothing.
+// Where a stride leads: to a point within the windows, where the half stands next, with the stride's length; or to one on a window's edge.
 #[derive(Clone, Copy)]
 pub enum Stride {
     Inner { next: Walker, length: f64 },
     Edge { y: Parameters, q: Point3D },
-    Nothing,
 }
 
 // Whether the chord is at most twice the stride and at most 0.2.
@@ -50,9 +47,7 @@ fn kept(chord: f64, h: f64) -> bool
 fn landing_kept(w: Walker, h: f64, q: Point3D) -> bool
     ensures { result ≡ landing_kept w h q }
 {
-    let p = w.p;
-    let t = w.t;
-    0.0 <= q.sub(p).dot(t) && kept(q.distance(p), h)
+    0.0 <= q.sub(w.p).dot(w.t) && kept(q.distance(w.p), h)
 }
 
 // A point on the window's edge that the stride would overstep.
@@ -65,19 +60,17 @@ fn landed(
     guess: Parameters,
     pin: usize,
     bound: f64,
-) -> Stride
+) -> Option<Stride>
     ensures { result ≡ landed_of a b tol w h guess pin bound }
 {
-    let met = land(a, b, guess, pin, bound, tol);
-    let Met::At(y) = met else {
-        return Stride::Nothing;
+    let Met::At(y) = land(a, b, guess, pin, bound, tol) else {
+        return None;
     };
-    let surface = a.surface;
-    let q = surface.eval_point(y.u1, y.v1);
+    let q = a.surface.eval_point(y.u1, y.v1);
     if landing_kept(w, h, q) {
-        Stride::Edge { y, q }
+        Some(Stride::Edge { y, q })
     } else {
-        Stride::Nothing
+        None
     }
 }
 
@@ -106,14 +99,20 @@ fn smooth(curvature: f64, chord: f64, turned: f64) -> bool
 fn accepted(confusion: f64, w: Walker, h: f64, ty: Vector3D, chord: f64, turned: f64) -> bool
     ensures { result ≡ accepted_of confusion w h ty chord turned }
 {
-    let t = w.t;
-    0.0 < ty.dot(t)
+    0.0 < ty.dot(w.t)
         && (kept(chord, h)
             && (near_curve(confusion, chord, turned) && smooth(w.curvature, chord, turned)))
 }
 
 // The stride to q with the direction ty, if it is accepted.
-fn onward(confusion: f64, w: Walker, h: f64, y: Parameters, q: Point3D, ty: Vector3D) -> Stride
+fn onward(
+    confusion: f64,
+    w: Walker,
+    h: f64,
+    y: Parameters,
+    q: Point3D,
+    ty: Vector3D,
+) -> Option<Stride>
     ensures { result ≡ onward_of confusion w h y q ty }
 {
     let chord = q.distance(w.p);
@@ -125,9 +124,9 @@ fn onward(confusion: f64, w: Walker, h: f64, y: Parameters, q: Point3D, ty: Vect
             t: ty,
             curvature: turned / number::max(chord, number::MIN_POSITIVE),
         };
-        Stride::Inner { next, length: h }
+        Some(Stride::Inner { next, length: h })
     } else {
-        Stride::Nothing
+        None
     }
 }
 
@@ -140,34 +139,31 @@ fn inner(
     w: Walker,
     h: f64,
     guess: Parameters,
-) -> Stride
+) -> Option<Stride>
     ensures { result ≡ inner_of a b tol dir w h guess }
 {
-    let p = w.p;
-    let t = w.t;
-    let met = meet_in_plane(a, b, guess, p.add(t.scale(h)), t, tol);
-    let Met::At(y) = met else {
-        return Stride::Nothing;
+    let Met::At(y) = meet_in_plane(a, b, guess, w.p.add(w.t.scale(h)), w.t, tol) else {
+        return None;
     };
-    let direction = tangent(a, b, y, tol);
-    let Direction::Along(d) = direction else {
-        return Stride::Nothing;
-    };
-    let surface = a.surface;
-    let q = surface.eval_point(y.u1, y.v1);
+    let d = tangent(a, b, y, tol)?;
+    let q = a.surface.eval_point(y.u1, y.v1);
     onward(tol.confusion, w, h, y, q, d.scale(dir))
 }
 
 // What the stride of length h leads to.
-pub(crate) fn attempt(a: Patch, b: Patch, tol: Tolerance, dir: f64, w: Walker, h: f64) -> Stride
+pub(crate) fn attempt(
+    a: Patch,
+    b: Patch,
+    tol: Tolerance,
+    dir: f64,
+    w: Walker,
+    h: f64,
+) -> Option<Stride>
     ensures { result ≡ attempt_of a b tol dir w h }
 {
-    let x = w.x;
-    let t = w.t;
-    let guess = predict(a, b, x, t.scale(h));
-    let exit = leaving(a, b, x, guess);
-    match exit {
-        Exit::Nowhere => inner(a, b, tol, dir, w, h, guess),
-        Exit::At { index, bound } => landed(a, b, tol, w, h, guess, index, bound),
+    let guess = predict(a, b, w.x, w.t.scale(h));
+    match leaving(a, b, w.x, guess) {
+        None => inner(a, b, tol, dir, w, h, guess),
+        Some(exit) => landed(a, b, tol, w, h, guess, exit.index, exit.bound),
     }
 }

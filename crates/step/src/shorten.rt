@@ -13,20 +13,26 @@ pub const H_MAX: f64 = 0.1;
 const MOST_HALVINGS: usize = 37;
 
 // The first of the strides h, h / 2, h / 4 .. that leads somewhere; none where they fall below confusion.
-pub(crate) fn shorten(a: Patch, b: Patch, tol: Tolerance, dir: f64, w: Walker, h: f64) -> Stride
+pub(crate) fn shorten(
+    a: Patch,
+    b: Patch,
+    tol: Tolerance,
+    dir: f64,
+    w: Walker,
+    h: f64,
+) -> Option<Stride>
     ensures { result ≡ stride_of a b tol dir w h }
 {
     let mut h = h;
     for _ in 0..MOST_HALVINGS {
         if h >= tol.confusion {
-            let stride = attempt(a, b, tol, dir, w, h);
-            let Stride::Nothing = stride else {
-                return stride;
-            };
+            if let Some(stride) = attempt(a, b, tol, dir, w, h) {
+                return Some(stride);
+            }
             h = h * 0.5;
         } else {
-            return Stride::Nothing;
+            return None;
         }
     }
-    Stride::Nothing
+    None
 }

@@ -68,12 +68,11 @@ pub fn step(
 ) -> Stepped
     ensures { result ≡ step_of a b tol dir start held w h }
 {
-    let stride = shorten(a, b, tol, dir, w, h);
-    match stride {
-        Stride::Inner { next, length } => {
+    match shorten(a, b, tol, dir, w, h) {
+        Some(Stride::Inner { next, length }) => {
             inner_step(tol.confusion, start, held, w.p, next, length)
         }
-        Stride::Edge { y, q } => edge_step(tol.confusion, w.p, y, q),
-        Stride::Nothing => Stepped::Ended,
+        Some(Stride::Edge { y, q }) => edge_step(tol.confusion, w.p, y, q),
+        None => Stepped::Ended,
     }
 }

@@ -1,5 +1,6 @@
 -- 9 and 21 are the seed's alone: the tests before them have 1 to 8, and what follows a meeting has 10, 11 or a line.
-use Rattle.std.specs.Prelude.{Ok, Err, Some, None}
+use Rattle.geometry.specs.declared.vector.Vector3D.{Vector3D}
+use Rattle.std.specs.Prelude.{Ok, Err, Some, None, Option}
 use mathlib.Core.Path.{◌≡◌, refl, sym, ap}
 use mathlib.Core.Bool.{Bool, true, false}
 use mathlib.Core.List.{List, ◌++◌}
@@ -26,7 +27,6 @@ use Rattle.patch.proofs.Fitness.{pair_each}
 use Rattle.meeting.specs.declared.newton.Met.{Met}
 use Rattle.meeting.specs.declared.newton.Met.TheVariants as met
 use Rattle.meeting.specs.Newton.{meet_of}
-use Rattle.tangent.specs.Tangent.{Direction}
 use Rattle.tangent.specs.Tangent.{tangent_of}
 use Rattle.walk.specs.Lent.{own_row, rows_of}
 use Rattle.walk.specs.Line.{line_of}
@@ -63,7 +63,7 @@ module _ (a b : Patch) (tol : Tolerance) (n : ℕ) (q : Refusal) (s : Seeds q) w
       go true e = let z = ap refusal_of e in let h = s.behind in omega (arith, z, h)
       go false e = s.not_eleven (sym (ap refusal_of e))
 
-  direction_other : (x : Parameters) (d : Direction) → (after_direction a b tol n x d).answer ≡ Err q → ⊥
+  direction_other : (x : Parameters) (d : Option Vector3D) → (after_direction a b tol n x d).answer ≡ Err q → ⊥
   direction_other x (Some t) e = settled_other (line_of a b tol x t n) e
   direction_other x None e = s.not_ten (sym (ap refusal_of e))
 

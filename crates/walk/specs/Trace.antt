@@ -1,5 +1,6 @@
 -- The call: its refusals, its answer and the lent buffer after it. Definitions only.
-use Rattle.std.specs.Prelude.{Bool, ◌&&◌, List, [], ◌∷◌, ◌++◌, ℕ, ◌+◌, ◌*◌, ◌-◌, leb, Float, length, take, drop, replicate, Ok, Err, Some, None}
+use Rattle.geometry.specs.declared.vector.Vector3D.{Vector3D}
+use Rattle.std.specs.Prelude.{Bool, ◌&&◌, List, [], ◌∷◌, ◌++◌, ℕ, ◌+◌, ◌*◌, ◌-◌, leb, Float, length, take, drop, replicate, Ok, Err, Some, None, Option}
 use Rattle.std.specs.Float.Ieee.Scale.{finite}
 use Rattle.loops.specs.Loop.{pick}
 use Rattle.groups.specs.Groups.{width, least_points, holds_of}
@@ -17,7 +18,6 @@ use Rattle.refusal.specs.Verdict.{asked, first_refusal}
 use Rattle.patch.specs.Pair.{pair_fitness}
 use Rattle.meeting.specs.declared.newton.Met.{Met}
 use Rattle.meeting.specs.declared.newton.Met.TheVariants as met
-use Rattle.tangent.specs.Tangent.{Direction}
 use Rattle.tangent.specs.Tangent.{tangent_of}
 use Rattle.meeting.specs.Newton.{meet_of}
 use Rattle.walk.specs.Lent.{own_row, rows_of}
@@ -77,7 +77,7 @@ unfoldable pub settled : (Parameters → Row) → ℕ → line.Line → Outcome
 settled row n found = line_or_refused (length found.points) found.start found.closing (rows_of row found.points) (room n)
 
 -- 10: "no direction at the meeting"
-abbrev pub after_direction : Patch → Patch → Tolerance → ℕ → Parameters → Direction → Outcome
+abbrev pub after_direction : Patch → Patch → Tolerance → ℕ → Parameters → Option Vector3D → Outcome
 after_direction a b tol n x (Some t) = settled (own_row a) n (line_of a b tol x t n)
 after_direction a b tol n x None = refused_walk refusal.NoDirection n
 

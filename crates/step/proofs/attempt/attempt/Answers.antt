@@ -2,16 +2,16 @@ use mathlib.Core.Path.{◌≡◌}
 use Rattle.step.specs.Attempt.{predicted, attempt_of}
 use Rattle.step.proofs.attempt.attempt.Goals as goal
 
-pub returns-in-Nowhere : goal.returns-in-Nowhere
+pub returns-in-None : goal.returns-in-None
 unfolding attempt_of
-returns-in-Nowhere c =
+returns-in-None c =
     let g = c.args in
     let e : c.predict-guess.result ≡ predicted g.a g.b g.w g.h = rw (c.predict-guess.ensures, c.scale.ensures) in
-    rw (← e, ← c.leaving-exit.ensures, c.in-Nowhere.is, ← c.inner.ensures)
+    rw (← e, ← c.leaving.ensures, c.in-None.is, ← c.inner.ensures)
 
-pub returns-in-At : goal.returns-in-At
+pub returns-in-Some : goal.returns-in-Some
 unfolding attempt_of
-returns-in-At c =
+returns-in-Some c =
     let g = c.args in
     let e : c.predict-guess.result ≡ predicted g.a g.b g.w g.h = rw (c.predict-guess.ensures, c.scale.ensures) in
-    rw (← e, ← c.leaving-exit.ensures, c.in-At.is, ← c.landed.ensures)
+    rw (← e, ← c.leaving.ensures, c.in-Some.is, ← c.landed.ensures)
