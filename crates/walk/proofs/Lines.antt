@@ -8,6 +8,8 @@ use lib.Ieee.{Float}
 use lib.ListN.{length, take, drop, length-append, length-reverse}
 use lib.Seq.{take_at, drop_at, length-take-le, take-append-add}
 use Rattle.loops.specs.Loop.{pick}
+use Rattle.groups.specs.declared.traced.Closing.{Closing}
+use Rattle.groups.specs.declared.traced.Closing.TheVariants as ends
 use Rattle.groups.specs.Groups.{width}
 use Rattle.groups.specs.declared.row.Row.{Row}
 use Rattle.groups.specs.Row.{numbers_of}
@@ -86,7 +88,7 @@ module _ {row : Parameters → Row} {x : Parameters} {n : ℕ} where
 
   module _ {forward : Half} {l : List Float} {f : ℕ} (s : Forward row x n forward l f) where
     -- the line that closes forward
-    pub settled_forward : finished_of (1 + f) 0 1 l ≡ settled row n (line.closed_forward x forward)
+    pub settled_forward : finished_of (1 + f) 0 ends.Forward l ≡ settled row n (line.closed_forward x forward)
     unfolding finished_of settled
     settled_forward = rw (s.front, s.size, s.count)
 
@@ -125,8 +127,8 @@ module _ {row : Parameters → Row} {x : Parameters} {n : ℕ} where
         }
 
   -- the line that does not: open, or closed backward
-  pub settled_both : {forward backward : Half} {l m : List Float} {f k closing : ℕ} → Both row x n forward backward l f k → m ≡ joined_of f k l → length m ≡ length l
-      → closing ≡ pick backward.closed 2 0 → finished_of (1 + f + k) k closing m ≡ settled row n (line.both_halves x forward backward)
+  pub settled_both : {forward backward : Half} {l m : List Float} {f k : ℕ} {closing : Closing} → Both row x n forward backward l f k → m ≡ joined_of f k l → length m ≡ length l
+      → closing ≡ pick backward.closed ends.Backward ends.Open → finished_of (1 + f + k) k closing m ≡ settled row n (line.both_halves x forward backward)
   unfolding finished_of settled
   settled_both {f = f} {k = k} s em lm ec = rw (lm, s.size, em, s.front, ec, s.count, s.start)
 

@@ -12,7 +12,7 @@ use lib.ListN.{length, replicate}
 use Rattle.loops.specs.Loop.{pick}
 use Rattle.number.specs.Helpers.{positive_zero}
 use Rattle.groups.specs.Groups.{width, least_points, holds_of}
-use Rattle.groups.specs.Traced.{TraceAnswer}
+use Rattle.groups.specs.Traced.{traced, TraceAnswer}
 use Rattle.groups.specs.Traced.{outcome, refusal_of}
 use Rattle.refusal.specs.declared.Refusal.{Refusal}
 use Rattle.refusal.specs.declared.Refusal.TheVariants as refusal
@@ -35,10 +35,10 @@ use Rattle.walk.specs.Trace.{guess_finite, cap_fits, call_tests, call_fitness, r
 
 -- a refusal is told by its answer
 abbrev refusal_in : Refusal → TraceAnswer → Refusal
-refusal_in d (line_of_three count start closing) = d
+refusal_in d (Ok t) = d
 refusal_in d (Err r) = r
 
-refused_same : {p q : Refusal} → Err p ≡ Err q → p ≡ q
+refused_same : {p q : Refusal} → ◌≡◌ {A = TraceAnswer} (Err p) (Err q) → p ≡ q
 refused_same {p} e = ap (refusal_in p) e
 
 -- the number's place is behind 8, and it is neither 10 nor 11
@@ -58,7 +58,7 @@ module _ (a b : Patch) (tol : Tolerance) (n : ℕ) (q : Refusal) (s : Seeds q) w
   unfolding settled
   settled_other m = go (leb least_points (length m.points))
     where
-      go : (t : Bool) → (pick t (outcome (line_of_three (length m.points) m.start m.closing) (rows_of (own_row a) m.points ++ replicate (room n - width * length m.points) positive_zero))
+      go : (t : Bool) → (pick t (outcome (traced (length m.points) m.start m.closing) (rows_of (own_row a) m.points ++ replicate (room n - width * length m.points) positive_zero))
           (outcome (Err refusal.TooShort) (replicate (room n) positive_zero))).answer ≡ Err q → ⊥
       go true e = let z = ap refusal_of e in let h = s.behind in omega (arith, z, h)
       go false e = s.not_eleven (sym (ap refusal_of e))

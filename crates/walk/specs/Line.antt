@@ -3,6 +3,8 @@ use Rattle.std.specs.Prelude.{Bool, true, false, List, [], ◌∷◌, reverse, �
 use Rattle.std.specs.Float.Ieee.{neg}
 use Rattle.loops.specs.Loop.{pick, Flow, on, out, searched}
 use Rattle.number.specs.Operators.{bits}
+use Rattle.groups.specs.declared.traced.Closing.{Closing}
+use Rattle.groups.specs.declared.traced.Closing.TheVariants.{Open, Forward, Backward}
 use Rattle.groups.specs.Groups.{width}
 use Rattle.groups.specs.declared.row.Row.{Row}
 use Rattle.geometry.specs.declared.point.Point3D.{Point3D}
@@ -75,11 +77,11 @@ pub record Written (row : Parameters → Row) (n : ℕ) (half : Half) (l : List 
   pub few : count ≤ n
   pub rows : take (width * count) l ≡ rows_of row (in_order half)
 
--- a line: the parameters of its points, the start's index and the closing code
+-- a line: the parameters of its points, the start's index and the closing
 pub record Line : Type 0 where
   pub points : List Parameters
   pub start : ℕ
-  pub closing : ℕ
+  pub closing : Closing
 
 -- the direction of the forward half: the Rust's `1.0`
 abbrev pub forward : Float
@@ -91,11 +93,11 @@ backward = neg forward
 
 -- "0 open, 1 closed forward, 2 closed backward": a half closed forward is the whole line
 abbrev pub closed_forward : Parameters → Half → Line
-closed_forward x f = record { points = x ∷ in_order f; start = 0; closing = 1 }
+closed_forward x f = record { points = x ∷ in_order f; start = 0; closing = Forward }
 
 -- the backward half last point first, the start, the forward half
 abbrev pub both_halves : Parameters → Half → Half → Line
-both_halves x f b = record { points = b.points ++ (x ∷ in_order f); start = length b.points; closing = pick b.closed 2 0 }
+both_halves x f b = record { points = b.points ++ (x ∷ in_order f); start = length b.points; closing = pick b.closed Backward Open }
 
 -- "runs forward, then backward unless closed"
 unfoldable pub line_of : Patch → Patch → Tolerance → Parameters → Vector3D → ℕ → Line

@@ -4,9 +4,10 @@ use Rattle.std.specs.Prelude.{Bool, ◌&&◌, List, [], ◌∷◌, ◌++◌, ℕ
 use Rattle.std.specs.Float.Ieee.Scale.{finite}
 use Rattle.loops.specs.Loop.{pick}
 use Rattle.groups.specs.Groups.{width, least_points, holds_of}
+use Rattle.groups.specs.declared.traced.Closing.{Closing}
 use Rattle.groups.specs.declared.row.Row.{Row}
 use Rattle.groups.specs.Traced.{TraceAnswer}
-use Rattle.groups.specs.Traced.{Outcome, outcome}
+use Rattle.groups.specs.Traced.{traced, Outcome, outcome}
 use Rattle.number.specs.Helpers.{positive_zero}
 use Rattle.refusal.specs.declared.Refusal.{Refusal}
 use Rattle.refusal.specs.declared.Refusal.TheVariants as refusal
@@ -63,13 +64,13 @@ abbrev pub refused_walk : Refusal → ℕ → Outcome
 refused_walk r n = outcome (Err r) (replicate (room n) positive_zero)
 
 -- 11: "fewer than 4 points"; "Success puts seven numbers a point first"; "zeros follow up to 7(2n+1)": here up to `size`
-abbrev pub line_or_refused : ℕ → ℕ → ℕ → List Float → ℕ → Outcome
+abbrev pub line_or_refused : ℕ → ℕ → Closing → List Float → ℕ → Outcome
 line_or_refused count start closing rows size =
-    pick (leb least_points count) (outcome (line_of_three count start closing) (rows ++ replicate (size - width * count) positive_zero))
+    pick (leb least_points count) (outcome (traced count start closing) (rows ++ replicate (size - width * count) positive_zero))
     (outcome (Err refusal.TooShort) (replicate size positive_zero))
 
 -- of a list that begins with the line's points
-unfoldable pub finished_of : ℕ → ℕ → ℕ → List Float → Outcome
+unfoldable pub finished_of : ℕ → ℕ → Closing → List Float → Outcome
 finished_of count start closing l = line_or_refused count start closing (take (width * count) l) (length l)
 
 -- of a line's points

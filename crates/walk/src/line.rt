@@ -7,12 +7,13 @@ ghost use Rattle.patch.specs.Located.{point_a};
 ghost use Rattle.walk.specs.Lent.{joined_of, own_row};
 ghost use Rattle.walk.specs.Line.{line_of};
 ghost use Rattle.groups.specs.Traced.{outcome};
+ghost use Rattle.groups.specs.declared.traced.Closing.TheVariants.{Open, Backward};
 ghost use Rattle.walk.specs.Trace.{most_steps, room, finished_of, settled};
 
 use crate::half::half;
 use crate::lent::{clear, put, reverse, row_for};
 use geometry::{Point3D, Tolerance, Vector3D};
-use groups::{LEAST_POINTS, Traced, WIDTH};
+use groups::{Closing, LEAST_POINTS, Traced, WIDTH};
 use patch::{Parameters, Patch};
 use refusal::Refusal;
 
@@ -29,27 +30,36 @@ fn join(points: &mut [f64], forward: usize, backward: usize)
 }
 
 // A line of fewer than 4 points is refused and nothing of it is left; otherwise zeros follow it.
-fn finish(points: &mut [f64], count: usize, start: usize, closing: usize) -> Traced
+fn finish(
+    points: &mut [f64],
+    count: usize,
+    start: usize,
+    closing: Closing,
+) -> Result<Traced, Refusal>
     requires { (width * count ≤ length points.old) × (count ≤ most_points) }
     ensures { outcome result points.new ≡ finished_of count start closing points.old }
 {
     if count < LEAST_POINTS {
         clear(&mut *points, 0);
-        return Traced::Refused(Refusal::TooShort);
+        return Err(Refusal::TooShort);
     }
     clear(&mut *points, WIDTH * count);
-    Traced::Line {
+    Ok(Traced {
         count,
         start,
         closing,
-    }
+    })
 }
 
-// The closing code of a line that did not close forward: 2 where its backward half closed.
-fn backward_code(closed: bool) -> usize
-    ensures { result ≡ pick closed 2 0 }
+// The closing of a line that did not close forward, by whether its backward half closed.
+fn backward_closing(closed: bool) -> Closing
+    ensures { result ≡ pick closed Backward Open }
 {
-    if closed { 2 } else { 0 }
+    if closed {
+        Closing::Backward
+    } else {
+        Closing::Open
+    }
 }
 
 // The line through the meeting with parameters x, whose point of A is p and whose tangent is t.
@@ -62,19 +72,19 @@ pub(crate) fn line(
     p: Point3D,
     t: Vector3D,
     n: usize,
-) -> Traced
+) -> Result<Traced, Refusal>
     requires { (p ≡ point_a a x) × ((n ≤ most_steps) × (length points.old ≡ room n)) }
     ensures { outcome result points.new ≡ settled (own_row a) n (line_of a b tol x t n) }
 {
     put(&mut *points, 0, row_for(p, x));
     let forward = half(&mut points[WIDTH..], a, b, tol, 1.0, x, p, t, n);
     if forward.closed {
-        return finish(&mut *points, 1 + forward.count, 0, 1);
+        return finish(&mut *points, 1 + forward.count, 0, Closing::Forward);
     }
     let behind = WIDTH * (1 + forward.count);
     let backward = half(&mut points[behind..], a, b, tol, -1.0, x, p, t, n);
     join(&mut *points, forward.count, backward.count);
     let count = 1 + forward.count + backward.count;
-    let closing = backward_code(backward.closed);
+    let closing = backward_closing(backward.closed);
     finish(&mut *points, count, backward.count, closing)
 }

@@ -10,8 +10,8 @@ use groups::{Traced, WIDTH};
 use meeting::Met;
 use meeting::newton::meet;
 use patch::{Parameters, Patch, pair_fitness};
-use refusal::{Refusal, Verdict};
-use tangent::{Direction, tangent};
+use refusal::{Refusal, asked};
+use tangent::tangent;
 
 // The least and the greatest step cap.
 const LEAST_STEPS: usize = 2;
@@ -41,32 +41,22 @@ fn call_fitness(
     guess: Parameters,
     cap: usize,
     buffer: &[f64],
-) -> Verdict
+) -> Result<(), Refusal>
     ensures { result ≡ call_fitness a b tol guess cap buffer.now }
 {
-    let pair = pair_fitness(a, b, tol);
-    let Verdict::Passed = pair else {
-        return pair;
-    };
-    if !guess_finite(guess) {
-        return Verdict::Refused(Refusal::Parameter);
-    }
-    if !cap_fits(cap) {
-        return Verdict::Refused(Refusal::StepCap);
-    }
-    if !groups::holds(buffer, 2 * cap + 1) {
-        return Verdict::Refused(Refusal::Lent);
-    }
-    Verdict::Passed
+    pair_fitness(a, b, tol)?;
+    asked(guess_finite(guess), Refusal::Parameter)?;
+    asked(cap_fits(cap), Refusal::StepCap)?;
+    asked(groups::holds(buffer, 2 * cap + 1), Refusal::Lent)
 }
 
 // What is answered where no walk begins: the meeting's refusal. A meeting alone is one point and no line.
-fn unwalked(met: Met) -> Traced
+fn unwalked(met: Met) -> Result<Traced, Refusal>
     ensures { result ≡ unwalked_of met }
 {
     match met {
-        Met::At(_) => Traced::Refused(Refusal::TooShort),
-        Met::Refused(refusal) => Traced::Refused(refusal),
+        Met::At(_) => Err(Refusal::TooShort),
+        Met::Refused(refusal) => Err(refusal),
     }
 }
 
@@ -78,7 +68,7 @@ fn walk_from(
     tol: Tolerance,
     guess: Parameters,
     n: usize,
-) -> Traced
+) -> Result<Traced, Refusal>
     requires { (n ≤ most_steps) × (length points.old ≡ room n) }
     ensures { outcome result points.new ≡ walk_of a b tol guess n }
 {
@@ -87,12 +77,11 @@ fn walk_from(
         clear(&mut *points, 0);
         return unwalked(met);
     };
-    let Direction::Along(t) = tangent(a, b, seed, tol) else {
+    let Some(t) = tangent(a, b, seed, tol) else {
         clear(&mut *points, 0);
-        return Traced::Refused(Refusal::NoDirection);
+        return Err(Refusal::NoDirection);
     };
-    let surface = a.surface;
-    let p = surface.eval_point(seed.u1, seed.v1);
+    let p = a.surface.eval_point(seed.u1, seed.v1);
     line(&mut *points, a, b, tol, seed, p, t, n)
 }
 
@@ -105,15 +94,10 @@ pub fn trace(
     guess: Parameters,
     cap: usize,
     buffer: &mut [f64],
-) -> Traced
+) -> Result<Traced, Refusal>
     ensures { outcome result buffer.new ≡ trace_of a b tol guess cap buffer.old }
 {
-    let fitness = call_fitness(a, b, tol, guess, cap, &*buffer);
-    match fitness {
-        Verdict::Refused(refusal) => Traced::Refused(refusal),
-        Verdict::Passed => {
-            let room = WIDTH * (2 * cap + 1);
-            walk_from(&mut buffer[..room], a, b, tol, guess, cap)
-        }
-    }
+    call_fitness(a, b, tol, guess, cap, &*buffer)?;
+    let room = WIDTH * (2 * cap + 1);
+    walk_from(&mut buffer[..room], a, b, tol, guess, cap)
 }

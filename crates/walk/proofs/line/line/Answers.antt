@@ -7,6 +7,7 @@ use borrow.Author.Rules.{rules}
 use mathlib.Core.List.{List}
 use lib.Ieee.{Float}
 use Rattle.loops.specs.Loop.{pick}
+use Rattle.groups.specs.declared.traced.Closing.TheVariants.{Open, Backward}
 use Rattle.groups.specs.Groups.{width}
 use Rattle.geometry.specs.declared.point.Point3D.{Point3D}
 use Rattle.walk.specs.Lent.{row_for, own_row}
@@ -83,5 +84,5 @@ finish-requires-2 c =
 
 pub returns : goal.returns
 returns c =
-    c.finish-2.ensures ∙ settled_both (both_put (goal.at.returns c).After-half-backward (forward_put (goal.at.returns c).After-half-forward (start_put (goal.at.returns c).After-put))) c.join.ensures c.join.auto.points (c.backward_code-closing.ensures ∙ ap (λ (t : Bool). pick t 2 0) c.half-backward.ensures.ends)
+    c.finish-2.ensures ∙ settled_both (both_put (goal.at.returns c).After-half-backward (forward_put (goal.at.returns c).After-half-forward (start_put (goal.at.returns c).After-put))) c.join.ensures c.join.auto.points (c.backward_closing-closing.ensures ∙ ap (λ (t : Bool). pick t Backward Open) c.half-backward.ensures.ends)
     ∙ ap (settled _ _) (both_halves_lem _ _ _ _ _ _ (sym c.half-forward.ensures.ends ∙ c.if-forward.false))

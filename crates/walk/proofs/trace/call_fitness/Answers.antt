@@ -1,57 +1,44 @@
-use Rattle.std.specs.Prelude.{Ok}
-use mathlib.Core.Path.{◌≡◌, sym, ◌∙◌}
-use mathlib.Core.Bool.{true, false}
-use Prim.Native.Nat.{◌+◌, ◌*◌}
-use borrow.Author.Rules.{rules}
-use borrow.Author.Tests.{not-true, not-false}
-use Rattle.groups.specs.Groups.{width, holds_of}
-use Rattle.patch.specs.Pair.{pair_fitness}
-use Rattle.walk.specs.Trace.{call_fitness}
+use Rattle.std.proofs.Common.{◌≡◌, true, ◌∙◌, sym, rules}
+use Rattle.refusal.specs.declared.Refusal.TheVariants as refusal
+use Rattle.refusal.proofs.Order.{passed_then, refused_then, last_then, asked_as, asked_held}
+use Rattle.walk.specs.Trace.{cap_fits, call_fitness}
 use Rattle.walk.proofs.Calls.{cap_least}
 use Rattle.walk.proofs.trace.call_fitness.Goals as goal
-use Rattle.walk.proofs.trace.call_fitness.Goals.{In-Ok}
+use Rattle.walk.proofs.trace.call_fitness.Goals.{In_ok-asked-2}
 
--- where both surfaces and the tolerance pass
-module _ (c : In-Ok) where
-  passed : pair_fitness c.args.a c.args.b c.args.tol ≡ Ok tt
-  passed = sym c.pair_fitness-pair.ensures ∙ c.in-Ok.is
-
-pub returns-in_default : goal.returns-in_default
-unfolding call_fitness
-returns-in_default c = rw (← c.pair_fitness-pair.ensures, c.in_default.is)
-
-pub returns-then-not-guess_finite : goal.returns-then-not-guess_finite
-unfolding call_fitness
-returns-then-not-guess_finite c = rw (passed (goal.at.returns-then-not-guess_finite c).In-Ok, ← c.guess_finite.ensures, not-true c.guess_finite.result c.if-not-guess_finite.true-raw)
-
-pub returns-then-not-cap_fits : goal.returns-then-not-cap_fits
-unfolding call_fitness
-returns-then-not-cap_fits c =
-    let finite = not-false c.guess_finite.result c.if-not-guess_finite.false-raw in
-    rw (passed (goal.at.returns-then-not-cap_fits c).In-Ok, ← c.guess_finite.ensures, finite, ← c.cap_fits.ensures, not-true c.cap_fits.result c.if-not-cap_fits.true-raw)
+-- the cap is none too large for the arithmetic on it
+module _ (c : In_ok-asked-2) where
+  capped : cap_fits c.args.cap ≡ true
+  capped = asked_held (cap_fits c.args.cap) refusal.StepCap (sym (asked_as refusal.StepCap c.asked-2.ensures c.cap_fits.ensures) ∙ c.in_ok-asked-2.was)
 
 pub overflow_mul-cap : goal.overflow_mul-cap
 overflow_mul-cap c =
-    let k = cap_least _ (sym c.cap_fits.ensures ∙ not-false _ c.if-not-cap_fits.false-raw) in
+    let k = cap_least _ (capped (goal.at.overflow_mul-cap c).In_ok-asked-2) in
     search rules
 
 pub overflow_add-cap : goal.overflow_add-cap
 overflow_add-cap c =
-    let k = cap_least _ (sym c.cap_fits.ensures ∙ not-false _ c.if-not-cap_fits.false-raw) in
+    let k = cap_least _ (capped (goal.at.overflow_add-cap c).In_ok-asked-2) in
     search rules
 
-pub returns-then-not-holds : goal.returns-then-not-holds
+pub returns-in_err-pair_fitness : goal.returns-in_err-pair_fitness
 unfolding call_fitness
-returns-then-not-holds c =
-    let finite = not-false c.guess_finite.result c.if-not-guess_finite.false-raw in
-    let fits = not-false c.cap_fits.result c.if-not-cap_fits.false-raw in
-    let few : holds_of width _ (2 * c.args.cap + 1) ≡ false = sym c.holds.ensures ∙ not-true c.holds.result c.if-not-holds.true-raw in
-    rw (passed (goal.at.returns-then-not-holds c).In-Ok, ← c.guess_finite.ensures, finite, ← c.cap_fits.ensures, fits, few)
+returns-in_err-pair_fitness c =
+    let e : c.from_residual.result ≡ c.pair_fitness.result = search rules in
+    e ∙ refused_then _ c.pair_fitness.ensures c.in_err-pair_fitness.was
+
+pub returns-in_err-asked : goal.returns-in_err-asked
+unfolding call_fitness
+returns-in_err-asked c =
+    let e : c.from_residual-in_err-asked.result ≡ c.asked.result = search rules in
+    passed_then c.pair_fitness.ensures c.in_ok-pair_fitness.was (e ∙ refused_then _ (asked_as refusal.Parameter c.asked.ensures c.guess_finite.ensures) c.in_err-asked.was)
+
+pub returns-in_err-asked-2 : goal.returns-in_err-asked-2
+unfolding call_fitness
+returns-in_err-asked-2 c =
+    let e : c.from_residual-in_err-asked-2.result ≡ c.asked-2.result = search rules in
+    passed_then c.pair_fitness.ensures c.in_ok-pair_fitness.was (passed_then (asked_as refusal.Parameter c.asked.ensures c.guess_finite.ensures) c.in_ok-asked.was (e ∙ refused_then _ (asked_as refusal.StepCap c.asked-2.ensures c.cap_fits.ensures) c.in_err-asked-2.was))
 
 pub returns : goal.returns
 unfolding call_fitness
-returns c =
-    let finite = not-false c.guess_finite.result c.if-not-guess_finite.false-raw in
-    let fits = not-false c.cap_fits.result c.if-not-cap_fits.false-raw in
-    let enough : holds_of width _ (2 * c.args.cap + 1) ≡ true = sym c.holds.ensures ∙ not-false c.holds.result c.if-not-holds.false-raw in
-    rw (passed (goal.at.returns c).In-Ok, ← c.guess_finite.ensures, finite, ← c.cap_fits.ensures, fits, enough)
+returns c = passed_then c.pair_fitness.ensures c.in_ok-pair_fitness.was (passed_then (asked_as refusal.Parameter c.asked.ensures c.guess_finite.ensures) c.in_ok-asked.was (passed_then (asked_as refusal.StepCap c.asked-2.ensures c.cap_fits.ensures) c.in_ok-asked-2.was (last_then (asked_as refusal.Lent c.asked-3.ensures c.holds.ensures))))

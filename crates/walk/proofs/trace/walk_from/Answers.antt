@@ -55,4 +55,4 @@ pub line-requires : goal.line-requires
 line-requires c = (c.eval_point-p.ensures, c.requires)
 
 pub returns : goal.returns
-returns c = c.line.ensures ∙ along _ _ _ _ _ _ _ (sym c.meet-met.ensures.answer ∙ c.in-At.is) (sym c.tangent.ensures ∙ c.in-Along.is)
+returns c = c.line.ensures ∙ along _ _ _ _ _ _ _ (sym c.meet-met.ensures.answer ∙ c.in-At.is) (sym c.tangent.ensures ∙ c.in-Some.is)

@@ -1,4 +1,4 @@
-use Rattle.walk.proofs.line.backward_code.Goals as goal
+use Rattle.walk.proofs.line.backward_closing.Goals as goal
 
 pub returns-then-closed : goal.returns-then-closed
 returns-then-closed c = rw c.if-closed.true
