@@ -1,4 +1,4 @@
-pub mod Iterations
+pub mod Listed
 pub mod Counted
 pub mod Computing
 pub mod Wreck

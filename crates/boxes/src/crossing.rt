@@ -4,8 +4,8 @@ ghost use Rattle.boxes.specs.Crossing.{sides_fit, box_fit, some_unfit, crossing_
 
 use crate::boxtree::Aabb;
 use crate::marching;
-use geometry::Tolerance;
-use groups::row::point_at;
+use geometry::{Point3D, Tolerance};
+use groups::row::{point_from, rows};
 use refusal::{Refusal, Verdict};
 
 // The answer of the public crossing.
@@ -39,13 +39,8 @@ fn some_unfit(points: &[f64], count: usize) -> bool
     requires { width * count ≤ length points.now }
     ensures { result ≡ some_unfit points.now count }
 {
-    for i in 0..count {
-        let p = point_at(points, i);
-        if !p.is_fit() {
-            return true;
-        }
-    }
-    false
+    let rows = rows(&points[..groups::WIDTH * count]);
+    !rows.iter().map(point_from).all(Point3D::is_fit)
 }
 
 // Refusals 5, 8, 12 (count only), 18 and 17, in this order.

@@ -1,10 +1,10 @@
-ghost use Rattle.std.specs.Prelude.{◌≡◌, ◌*◌, ◌≤◌, ◌<◌, length};
+ghost use Rattle.std.specs.Prelude.{◌≡◌, ◌/◌, ◌≤◌, length};
 ghost use Rattle.groups.specs.Groups.{width};
 ghost use Rattle.boxes.specs.Bounds.{point_box, cover_of, bounds_of};
 
 use crate::boxtree::Aabb;
 use geometry::Point3D;
-use groups::row::point_at;
+use groups::row::{point_from, rows};
 
 // The box that is one point.
 fn point_box(p: Point3D) -> Aabb
@@ -33,14 +33,12 @@ fn cover(b: Aabb, p: Point3D) -> Aabb
     }
 }
 
-// The box around the first `count` points of a part of a trace.
-pub(crate) fn bounding_box(points: &[f64], count: usize) -> Aabb
-    requires { (0 < count) × (width * count ≤ length points.now) }
-    ensures { result ≡ bounds_of points.now count }
+// The box around the points of a trace or of a part of one.
+pub(crate) fn bounding_box(points: &[f64]) -> Aabb
+    requires { width ≤ length points.now }
+    ensures { result ≡ bounds_of points.now (length points.now / width) }
 {
-    let mut b = point_box(point_at(points, 0));
-    for i in 1..count {
-        b = cover(b, point_at(points, i));
-    }
-    b
+    let rows = rows(points);
+    let first = point_box(point_from(&rows[0]));
+    rows[1..].iter().map(point_from).fold(first, cover)
 }

@@ -1,2 +1,3 @@
 pub mod Groups
 pub mod Rows
+pub mod Items

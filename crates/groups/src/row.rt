@@ -1,6 +1,7 @@
-ghost use Rattle.std.specs.Prelude.{◌≡◌, ◌+◌, ◌*◌, ◌≤◌, length};
+ghost use Rattle.std.specs.Prelude.{◌≡◌, ◌/◌, length};
+ghost use Rattle.std.specs.Simd.{first_chunks};
 ghost use Rattle.groups.specs.Groups.{width};
-ghost use Rattle.groups.specs.Row.{numbers_of, point_in, row_from, row_of, point_at};
+ghost use Rattle.groups.specs.Row.{numbers_of, point_in, row_from, row_of};
 
 use crate::WIDTH;
 use geometry::Point3D;
@@ -18,6 +19,16 @@ pub struct Row {
 }
 
 impl Row {
+    pub const ZERO: Row = Row {
+        x: 0.0,
+        y: 0.0,
+        z: 0.0,
+        u1: 0.0,
+        v1: 0.0,
+        u2: 0.0,
+        v2: 0.0,
+    };
+
     // The point itself.
     pub fn point(self) -> Point3D
         ensures { result ≡ point_in self }
@@ -37,49 +48,45 @@ impl Row {
     }
 }
 
-// The numbers of the point that stands from index `at` on.
-fn read(points: &[f64], at: usize) -> Row
-    requires { at + width ≤ length points.now }
-    ensures { result ≡ row_from points.now at }
-{
-    Row {
-        x: points[at],
-        y: points[at + 1],
-        z: points[at + 2],
-        u1: points[at + 3],
-        v1: points[at + 4],
-        u2: points[at + 5],
-        v2: points[at + 6],
+// The numbers in their order.
+impl From<[f64; WIDTH]> for Row {
+    ghost from_gives = { λ numbers row. row ≡ row_from numbers 0 };
+
+    fn from([x, y, z, u1, v1, u2, v2]: [f64; WIDTH]) -> Row {
+        Row {
+            x,
+            y,
+            z,
+            u1,
+            v1,
+            u2,
+            v2,
+        }
     }
+}
+
+// The coordinates come first.
+pub fn point_from(numbers: &[f64; WIDTH]) -> Point3D
+    ensures { result ≡ point_in (row_from numbers.now 0) }
+{
+    let [x, y, z, ..] = *numbers;
+    Point3D { x, y, z }
+}
+
+// The points of a list, each with its numbers: as many as it has whole groups.
+pub fn rows(points: &[f64]) -> &[[f64; WIDTH]]
+    ensures { result.now ≡ first_chunks width (length points.now / width) points.now }
+{
+    let (rows, _) = points.as_chunks::<WIDTH>();
+    rows
 }
 
 // The numbers of point i of the list; zeros where the list has no such point.
 pub fn row_of(points: &[f64], i: usize) -> Row
     ensures { result ≡ row_of points.now i }
 {
-    if i < points.len() / WIDTH {
-        return read(points, WIDTH * i);
-    }
-    Row {
-        x: 0.0,
-        y: 0.0,
-        z: 0.0,
-        u1: 0.0,
-        v1: 0.0,
-        u2: 0.0,
-        v2: 0.0,
-    }
-}
-
-// The coordinates of point i of the list.
-pub fn point_at(points: &[f64], i: usize) -> Point3D
-    requires { width * i + width ≤ length points.now }
-    ensures { result ≡ point_at points.now i }
-{
-    let at = WIDTH * i;
-    Point3D {
-        x: points[at],
-        y: points[at + 1],
-        z: points[at + 2],
+    match rows(points).get(i) {
+        Some(numbers) => Row::from(*numbers),
+        None => Row::ZERO,
     }
 }

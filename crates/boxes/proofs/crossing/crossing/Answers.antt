@@ -9,7 +9,7 @@ crosses-requires c =
     let g = c.args in
     let h = tests_fit g.tol g.points.now g.count g.b (sym c.crossing_fitness-fitness.ensures ∙ c.in-Ok.is) in
     let low = h.least in
-    (omega (arith, low), h.most, h.lent)
+    (omega (arith, low), h.lent)
 
 pub returns-in-Refused : goal.returns-in-Refused
 unfolding crossing_of

@@ -1,28 +1,25 @@
--- The search goes on as the definition's does.
-use mathlib.Core.Path.{refl, ◌∙◌}
-use Rattle.loops.proofs.Any.{any_again, any_leave, any_done}
-use Rattle.boxes.specs.Crossing.{unfit_at, some_unfit}
-use Rattle.boxes.proofs.Iterations.{unfit_iteration}
-use native.Mathlib.Omega.{arith}
+use mathlib.Core.Path.{ap, ◌∙◌}
+use mathlib.Core.Bool.{not}
+use mathlib.Core.List.{List, map}
+use lib.Ieee.{Float}
+use Rattle.std.specs.List.{list_all}
+use Rattle.std.proofs.Common.{rules}
+use Rattle.std.proofs.lemmas.Iterator.{YieldsList-from_slice, YieldsList-from_map}
+use Rattle.std.proofs.lemmas.Iterator.Consumers.{YieldsList-at}
+use Rattle.std.proofs.lemmas.Iterator.Search.{all_from_yields_List}
+use Rattle.groups.specs.Row.{point_in, row_from}
+use Rattle.geometry.specs.Point.{point_fit}
+use Rattle.groups.proofs.Rows.{points_taken}
+use Rattle.boxes.proofs.Listed.{unfit_listed}
 use Rattle.boxes.proofs.crossing.some_unfit.Goals as goal
-
-pub loop-i-init : goal.loop-i-init
-unfolding some_unfit
-loop-i-init c = (refl, omega arith)
-
-pub returns-then-not-is_fit : goal.returns-then-not-is_fit
-returns-then-not-is_fit c =
-    let g = c.args in
-    let e = unfit_iteration g.points.now c.loop-i.i c.point_at-p.ensures c.is_fit.ensures in
-    any_leave (unfit_at g.points.now) c.loop-i.i g.count c.loop-i-test.true (e ∙ c.if-not-is_fit.true-raw) c.loop-i.invariant.0
-
-pub loop-i-preserved : goal.loop-i-preserved
-loop-i-preserved c =
-    let g = c.args in
-    let e = unfit_iteration g.points.now c.loop-i.i c.point_at-p.ensures c.is_fit.ensures in
-    (any_again (unfit_at g.points.now) c.loop-i.i g.count c.loop-i-test.true (e ∙ c.if-not-is_fit.false-raw) c.loop-i.invariant.0, omega arith)
 
 pub returns : goal.returns
 returns c =
-    let g = c.args in
-    any_done (unfit_at g.points.now) c.loop-i.i g.count c.loop-i-test.false c.loop-i.invariant.0
+    let l = c.args.points.now in
+    let f = λ (m : List Float). point_in (row_from m 0) in
+    let a =
+    all_from_yields_List point_fit _ _ _ c.all.ensures.ran
+    (YieldsList-from_map _ f (YieldsList-at c.map.ensures.source (YieldsList-from_slice c.rows-rows.result.now c.iter.ensures.rest)) c.map.ensures.closure (λ x r q k. search rules))
+    (λ x b q k. search rules) in
+    ap not (a ∙ ap (λ (g : List (List Float)). list_all point_fit (map f g)) c.rows-rows.ensures ∙ ap (list_all point_fit) (points_taken l c.args.count c.requires))
+    ∙ unfit_listed l c.args.count

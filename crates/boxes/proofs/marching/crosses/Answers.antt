@@ -1,11 +1,16 @@
-use mathlib.Core.Path.{◌≡◌}
+use mathlib.Core.Path.{◌≡◌, ap, ◌∙◌}
 use mathlib.Core.Bool.{Bool, true, false}
 use mathlib.Core.List.{List}
-use Prim.Native.Nat.{ℕ}
+use Prim.Native.Nat.{ℕ, ◌*◌, ◌/◌, ◌≤◌, ◌<◌}
+use native.Mathlib.Omega.{arith}
+use lib.ListN.{length, take}
+use lib.Seq.{length-take-le}
 use lib.Ieee.{Float}
+use Rattle.groups.specs.Groups.{width}
 use Rattle.boxes.specs.declared.boxtree.Aabb.{Aabb}
 use Rattle.boxes.specs.Bounds.{boxes_apart, bounds_of}
 use Rattle.boxes.specs.Crosses.{grown_of, some_run, crosses_of}
+use Rattle.boxes.proofs.Listed.{bounds_taken, runs_taken}
 use Rattle.boxes.proofs.marching.crosses.Goals as goal
 
 module _ (l : List Float) (count : ℕ) (b : Aabb) (confusion : Float) {wide bounds : Aabb} {r : Bool} where
@@ -19,7 +24,14 @@ module _ (l : List Float) (count : ℕ) (b : Aabb) (confusion : Float) {wide bou
     near h k = rw (← g, ← e, ← f, h) k
 
 pub returns-then-boxes_apart : goal.returns-then-boxes_apart
-returns-then-boxes_apart c = apart _ _ _ _ c.grown-wide.ensures c.bounding_box-bounds.ensures c.boxes_apart.ensures c.if-boxes_apart.true
+returns-then-boxes_apart c =
+    let l = c.args.points.now in let count = c.args.count in
+    apart l count c.args.b c.args.confusion c.grown-wide.ensures
+    (c.bounding_box-bounds.ensures ∙ bounds_taken l count c.requires.1 c.requires.0) c.boxes_apart.ensures c.if-boxes_apart.true
 
 pub returns : goal.returns
-returns c = near _ _ _ _ c.grown-wide.ensures c.bounding_box-bounds.ensures c.boxes_apart.ensures c.if-boxes_apart.false c.some_run.ensures
+returns c =
+    let l = c.args.points.now in let count = c.args.count in
+    near l count c.args.b c.args.confusion c.grown-wide.ensures
+    (c.bounding_box-bounds.ensures ∙ bounds_taken l count c.requires.1 c.requires.0) c.boxes_apart.ensures c.if-boxes_apart.false
+    (c.some_run.ensures ∙ runs_taken l count c.grown-wide.result c.requires.1)

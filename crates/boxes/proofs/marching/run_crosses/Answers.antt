@@ -1,8 +1,10 @@
 use mathlib.Core.Path.{◌≡◌, ◌∙◌}
 use mathlib.Core.Bool.{Bool, true, false}
 use mathlib.Core.List.{List}
-use Prim.Native.Nat.{ℕ}
+use Prim.Native.Nat.{ℕ, ◌/◌}
 use lib.Ieee.{Float}
+use lib.ListN.{length}
+use Rattle.groups.specs.Groups.{width}
 use Rattle.boxes.specs.declared.boxtree.Aabb.{Aabb}
 use Rattle.boxes.specs.Bounds.{boxes_apart, bounds_of}
 use Rattle.boxes.specs.Crosses.{some_segment, run_crosses}
@@ -18,7 +20,11 @@ module _ (l : List Float) (count : ℕ) (b : Aabb) {bounds : Aabb} {r : Bool} (e
   near h = rw (← e, ← f, h)
 
 pub returns-then-boxes_apart : goal.returns-then-boxes_apart
-returns-then-boxes_apart c = apart _ _ _ c.bounding_box-bounds.ensures c.boxes_apart.ensures c.if-boxes_apart.true
+returns-then-boxes_apart c =
+    let l = c.args.points.now in
+    apart l (length l / width) c.args.b c.bounding_box-bounds.ensures c.boxes_apart.ensures c.if-boxes_apart.true
 
 pub returns : goal.returns
-returns c = c.some_segment.ensures ∙ near _ _ _ c.bounding_box-bounds.ensures c.boxes_apart.ensures c.if-boxes_apart.false
+returns c =
+    let l = c.args.points.now in
+    c.some_segment.ensures ∙ near l (length l / width) c.args.b c.bounding_box-bounds.ensures c.boxes_apart.ensures c.if-boxes_apart.false

@@ -1,5 +1,7 @@
-use mathlib.Core.Path.{sym, ap, ◌∙◌}
-use Rattle.boxes.specs.Segment.{met, segment_meets_box}
+use mathlib.Core.Path.{◌≡◌, ap, ◌∙◌}
+use Rattle.std.specs.Prelude.{is_some}
+use Rattle.number.specs.Operators.{◌⊖◌}
+use Rattle.boxes.specs.Segment.{clip_of, segment_meets_box}
 use Rattle.boxes.proofs.marching.segment_meets_box.Goals as goal
 
 pub returns-in_default : goal.returns-in_default
@@ -8,12 +10,12 @@ returns-in_default c = rw (← c.clip.ensures, c.in_default.is)
 
 pub returns-in_default-clip : goal.returns-in_default-clip
 unfolding segment_meets_box
-returns-in_default-clip c = rw (← c.clip.ensures, c.in-Meets.is, ← c.clip-2.ensures, c.in_default-clip.is)
-
-pub returns-in_default-clip-2 : goal.returns-in_default-clip-2
-unfolding segment_meets_box
-returns-in_default-clip-2 c = rw (← c.clip.ensures, c.in-Meets.is, ← c.clip-2.ensures, c.in-Meets-clip.is) (ap met (sym c.in_default-clip-2.is ∙ c.clip-3.ensures))
+returns-in_default-clip c = rw (← c.clip.ensures, c.in-Some.is, ← c.clip-2.ensures, c.in_default-clip.is)
 
 pub returns : goal.returns
 unfolding segment_meets_box
-returns c = rw (← c.clip.ensures, c.in-Meets.is, ← c.clip-2.ensures, c.in-Meets-clip.is) (ap met (sym c.in-Meets-clip-2.is ∙ c.clip-3.ensures))
+returns c =
+    let p = c.args.p in let q = c.args.q in let b = c.args.b in
+    let joined : is_some (clip_of p.z (q.z ⊖ p.z) b.low.z b.high.z c.in-Some-clip.y) ≡ segment_meets_box p q b =
+        rw (← c.clip.ensures, c.in-Some.is, ← c.clip-2.ensures, c.in-Some-clip.is) in
+    c.is_some.ensures ∙ ap is_some c.clip-3.ensures ∙ joined

@@ -1,12 +1,13 @@
--- The search goes on as the definition's does, each run as a part of the trace.
+-- The search goes on as the definition's does, run by run.
 use mathlib.Core.Path.{◌≡◌}
-use Prim.Native.Nat.{◌-◌, ◌≤◌}
+use Prim.Native.Nat.{◌/◌, ◌%◌}
+use lib.ListN.{length}
+use Rattle.groups.specs.Groups.{width}
 use Rattle.loops.specs.Any.{any_in}
-use Rattle.boxes.specs.Crosses.{run_at, runs_of, some_run}
+use Rattle.boxes.specs.Crosses.{run_length, run_at, runs_of, some_run}
 use Rattle.boxes.proofs.marching.some_run.Given as goal
 
-abbrev pub invariant-loop-r : goal.invariant-loop-r
-invariant-loop-r l = (any_in (run_at l.points l.count l.b) l.r (runs_of l.count) ≡ some_run l.points l.count l.b) × (l.r ≤ runs_of l.count)
-
-abbrev pub decreases-loop-r : goal.decreases-loop-r
-decreases-loop-r l = runs_of l.count - l.r
+abbrev pub invariant-loop-first : goal.invariant-loop-first
+invariant-loop-first l =
+    (any_in (run_at l.points (length l.points / width) l.b) (l.first / run_length) (runs_of (length l.points / width)) ≡ some_run l.points (length l.points / width) l.b)
+    × (l.first % run_length ≡ 0)

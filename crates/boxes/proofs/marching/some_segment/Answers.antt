@@ -1,29 +1,41 @@
--- The search goes on as the definition's does.
-use mathlib.Core.Path.{refl, ◌∙◌}
-use Prim.Native.Nat.{◌-◌}
-use Rattle.loops.proofs.Any.{any_again, any_leave, any_done}
-use Rattle.boxes.specs.Crosses.{segment_meets, some_segment}
-use Rattle.boxes.proofs.Iterations.{segment_iteration}
+use mathlib.Core.Path.{◌≡◌, sym, ap, ◌∙◌}
+use mathlib.Core.List.{List, map}
+use Prim.Native.Nat.{◌/◌, ◌<◌}
 use native.Mathlib.Omega.{arith}
+use lib.ListN.{length, drop}
+use lib.Ieee.{Float}
+use Rattle.std.specs.List.{list_any, zip}
+use Rattle.std.specs.Simd.{first_chunks}
+use Rattle.std.proofs.lemmas.List.{drop-map}
+use Rattle.groups.proofs.Rows.{points_of}
+use Rattle.std.proofs.Common.{rules}
+use Rattle.std.proofs.lemmas.Iterator.{YieldsList-from_slice, YieldsList-from_map, YieldsList-from_zip}
+use Rattle.std.proofs.lemmas.Iterator.Adapters.{YieldsList-from_skip}
+use Rattle.std.proofs.lemmas.Iterator.Consumers.{YieldsList-at}
+use Rattle.std.proofs.lemmas.Iterator.Search.{any_from_yields_List}
+use Rattle.groups.specs.Groups.{width}
+use Rattle.groups.specs.Row.{point_in, row_from}
+use Rattle.geometry.specs.declared.point.Point3D.{Point3D}
+use Rattle.boxes.specs.Segment.{segment_meets_box}
+use Rattle.boxes.proofs.Listed.{segments_listed}
 use Rattle.boxes.proofs.marching.some_segment.Goals as goal
-
-pub loop-i-init : goal.loop-i-init
-unfolding some_segment
-loop-i-init c = (refl, omega arith)
-
-pub returns-then-segment_meets_box : goal.returns-then-segment_meets_box
-returns-then-segment_meets_box c =
-    let g = c.args in
-    let e = segment_iteration g.points.now g.b c.loop-i.i c.point_at-p.ensures c.point_at-q.ensures c.segment_meets_box.ensures in
-    any_leave (segment_meets g.points.now g.b) c.loop-i.i (g.count - 1) c.loop-i-test.true (e ∙ c.if-segment_meets_box.true) c.loop-i.invariant.0
-
-pub loop-i-preserved : goal.loop-i-preserved
-loop-i-preserved c =
-    let g = c.args in
-    let e = segment_iteration g.points.now g.b c.loop-i.i c.point_at-p.ensures c.point_at-q.ensures c.segment_meets_box.ensures in
-    (any_again (segment_meets g.points.now g.b) c.loop-i.i (g.count - 1) c.loop-i-test.true (e ∙ c.if-segment_meets_box.false) c.loop-i.invariant.0, omega arith)
 
 pub returns : goal.returns
 returns c =
-    let g = c.args in
-    any_done (segment_meets g.points.now g.b) c.loop-i.i (g.count - 1) c.loop-i-test.false c.loop-i.invariant.0
+    let l = c.args.points.now in
+    let f = λ (m : List Float). point_in (row_from m 0) in
+    let r = c.rows-rows.result.now in
+    let n = length l / width in
+    let b = c.args.b in
+    let a =
+    any_from_yields_List (λ (s : Point3D × Point3D). segment_meets_box s.0 s.1 b) c.any.new.self _ c.any.result c.any.ensures.ran
+    (YieldsList-from_zip
+    (YieldsList-at c.zip.ensures.first (YieldsList-from_map _ f (YieldsList-at c.map-starts.ensures.source (YieldsList-from_slice r c.iter.ensures.rest))
+    c.map-starts.ensures.closure (λ x r q k. search rules)))
+    (YieldsList-at c.zip.ensures.second (YieldsList-from_map _ f (YieldsList-at c.map-ends.ensures.source (YieldsList-from_skip 1
+    (YieldsList-at c.skip.ensures.source (YieldsList-from_slice r c.iter-2.ensures.rest)) c.skip.ensures.count))
+    c.map-ends.ensures.closure (λ x r q k. search rules))))
+    (λ x b q k. search rules) in
+    a ∙ ap (λ (g : List (List Float)). list_any (λ (s : Point3D × Point3D). segment_meets_box s.0 s.1 b) (zip (map f g) (map f (drop 1 g)))) c.rows-rows.ensures
+    ∙ ap (λ (ends : List Point3D). list_any (λ (s : Point3D × Point3D). segment_meets_box s.0 s.1 b) (zip (points_of l n) ends)) (sym (drop-map f 1 (first_chunks width n l)))
+    ∙ segments_listed l n b

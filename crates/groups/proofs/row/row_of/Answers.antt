@@ -1,11 +1,27 @@
+use mathlib.Core.Path.{◌≡◌, sym, ap, ◌∙◌}
+use mathlib.Core.List.{List}
+use Prim.Native.Nat.{◌/◌, ◌<◌}
+use native.Mathlib.Omega.{arith}
+use lib.Ieee.{Float}
+use lib.ListN.{length, get_or}
 use borrow.Author.Tests.{lt-ltb, le-ltb}
-use Rattle.groups.specs.Row.{row_of}
+use Rattle.std.specs.Simd.{first_chunks}
+use Rattle.groups.specs.Groups.{width}
+use Rattle.groups.specs.Row.{row_from, row_of}
+use Rattle.groups.proofs.Rows.{length_groups, group_of, row_group, row_there}
 use Rattle.groups.proofs.row.row_of.Goals as goal
 
-pub returns-then-i-points : goal.returns-then-i-points
-unfolding row_of
-returns-then-i-points c = rw (lt-ltb _ _ c.if-i-points.true, c.read.ensures)
+pub returns-in-Some : goal.returns-in-Some
+returns-in-Some c =
+    let l = c.args.points.now in
+    let n = length l / width in
+    let h = rw (c.rows.ensures, length_groups width n l) at c.in-Some.ensures.lookup.3.0 in
+    let e = rw c.rows.ensures at c.in-Some.ensures.lookup.1 in
+    c.from.ensures ∙ ap (λ (m : List Float). row_from m 0) (e ∙ group_of width n c.args.i l _ h) ∙ row_group l c.args.i ∙ sym (row_there l c.args.i (omega arith))
 
-pub returns : goal.returns
+pub returns-in-None : goal.returns-in-None
 unfolding row_of
-returns c = rw (le-ltb _ _ c.if-i-points.false)
+returns-in-None c =
+    let l = c.args.points.now in
+    let h = rw (c.rows.ensures, length_groups width (length l / width) l) at c.in-None.ensures.lookup.3 in
+    rw (le-ltb c.args.i (length l / width) h)

@@ -1,5 +1,5 @@
 use mathlib.Core.Path.{refl}
-use Rattle.groups.proofs.row.point_at.Goals as goal
+use Rattle.groups.proofs.row.point_from.Goals as goal
 
 pub returns : goal.returns
 returns c = refl
