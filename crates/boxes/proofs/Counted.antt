@@ -98,18 +98,9 @@ passed_of : (v : Verdict) (t : Bool) → refusal_of (answer_of v t) ≡ 0 → v 
 passed_of (Ok u) t e = refl
 passed_of (Err r) t e = let h = number_positive r in absurd (omega (arith, h, e))
 
-answered : (t : Bool) → refusal_of (pick t (Ok true) (Ok false)) ≡ 0
-answered true = refl
-answered false = refl
-
-is_crossed : (t : Bool) → crossed_of (pick t (Ok true) (Ok false)) ≡ t
-is_crossed true = refl
-is_crossed false = refl
-
 -- a crossed trace is not refused
 crossed_answer : (x : Crossed) → crossed_of x ≡ true → refusal_of x ≡ 0
-crossed_answer (Ok true) e = refl
-crossed_answer (Ok false) e = refl
+crossed_answer (Ok t) e = refl
 crossed_answer (Err r) e = let z : ◌≡◌ {A = ℕ} 0 1 = cc in absurd (omega arith)
 
 module _ (tol : Tolerance) (l : List Float) (count : ℕ) (b : Aabb) where
@@ -136,7 +127,7 @@ module _ (tol : Tolerance) (l : List Float) (count : ℕ) (b : Aabb) where
       rw (f.tolerance, le-leb _ _ f.lent, fits_count count f.least f.most, n, f.corners)
 
   -- where nothing refuses, `crosses` answers
-  pub fit_answer : Fit tol l count b → crossing_of tol l count b ≡ pick (crosses_of l count b tol.confusion) (Ok true) (Ok false)
+  pub fit_answer : Fit tol l count b → crossing_of tol l count b ≡ Ok (crosses_of l count b tol.confusion)
   unfolding crossing_of
   fit_answer f = rw (fit_tests f)
 
@@ -146,7 +137,7 @@ module _ (tol : Tolerance) (l : List Float) (count : ℕ) (b : Aabb) where
 
   -- no number exactly when none of 5, 8, 12, 18, 17 refuses
   pub answers_when : (refusal_of (crossing_of tol l count b) ≡ 0) ↔ Fit tol l count b
-  answers_when = (fit_of, λ f. ap refusal_of (fit_answer f) ∙ answered (crosses_of l count b tol.confusion))
+  answers_when = (fit_of, λ f. ap refusal_of (fit_answer f))
 
   -- The sentence of the scope, for every input: the answer is yes exactly when nothing refuses (`Fit`) and there is a segment i of the
   -- trace, from point i to point i + 1, such that the box of the whole trace and the box of run i / 16 are not apart from the box grown
@@ -157,10 +148,10 @@ module _ (tol : Tolerance) (l : List Float) (count : ℕ) (b : Aabb) where
       there : crossed_of (crossing_of tol l count b) ≡ true → Fit tol l count b × ((i : ℕ) × Counts l count (grown_of b tol.confusion) i)
       there e =
           let f = fit_of (crossed_answer (crossing_of tol l count b) e) in
-          let y = sym (is_crossed (crosses_of l count b tol.confusion)) ∙ sym (ap crossed_of (fit_answer f)) ∙ e in
+          let y = sym (ap crossed_of (fit_answer f)) ∙ e in
           (f, counts_found l count b tol.confusion y)
 
       back : Fit tol l count b × ((i : ℕ) × Counts l count (grown_of b tol.confusion) i) → crossed_of (crossing_of tol l count b) ≡ true
       back p =
-          ap crossed_of (fit_answer p.0) ∙ is_crossed (crosses_of l count b tol.confusion)
+          ap crossed_of (fit_answer p.0)
           ∙ counts_crosses l count b tol.confusion p.1.0 p.1.1

@@ -1,6 +1,5 @@
 -- The public crossing. Definitions only.
-use Rattle.std.specs.Prelude.{Bool, true, false, not, ◌&&◌, List, [], ◌∷◌, ℕ, Float, Ok, Err}
-use Rattle.loops.specs.Loop.{pick}
+use Rattle.std.specs.Prelude.{Bool, false, not, ◌&&◌, List, [], ◌∷◌, ℕ, Float, Result, Ok, Err}
 use Rattle.loops.specs.Any.{any_in}
 use Rattle.number.specs.Operators.{◌<?◌}
 use Rattle.groups.specs.Groups.{width, count_fits, holds_of}
@@ -9,11 +8,11 @@ use Rattle.geometry.specs.Tolerance.{tolerance_fit}
 use Rattle.geometry.specs.declared.tolerance.Tolerance.{Tolerance}
 use Rattle.geometry.specs.Point.{point_fit}
 use Rattle.refusal.specs.Refusal.{number_of}
+use Rattle.refusal.specs.declared.Refusal.{Refusal}
 use Rattle.refusal.specs.declared.Refusal.TheVariants as refusal
 use Rattle.refusal.specs.Verdict.{Verdict}
 use Rattle.refusal.specs.Verdict.{asked, first_refusal}
 use Rattle.boxes.specs.declared.boxtree.Aabb.{Aabb}
-use Rattle.boxes.specs.Crossing.{Crossed}
 use Rattle.boxes.specs.Crosses.{crosses_of}
 
 -- not "a low side above its high side"
@@ -32,16 +31,18 @@ unfit_at l i = not (point_fit (point_at l i))
 unfoldable pub some_unfit : List Float → ℕ → Bool
 some_unfit l count = any_in (unfit_at l) 0 count
 
+-- the public crossing's answer
+abbrev pub Crossed : Type 0
+Crossed = Result Bool Refusal
+
 -- the paper's number for each case (0: not refused)
 abbrev pub refusal_of : Crossed → ℕ
-refusal_of (Ok true) = 0
-refusal_of (Ok false) = 0
+refusal_of (Ok crosses) = 0
 refusal_of (Err r) = number_of r
 
 -- whether the trace is crossed
 abbrev pub crossed_of : Crossed → Bool
-crossed_of (Ok true) = true
-crossed_of (Ok false) = false
+crossed_of (Ok crosses) = crosses
 crossed_of (Err r) = false
 
 -- "Crossing: 5, 8, 12 (count only), 18, 17"
@@ -61,7 +62,7 @@ crossing_fitness tol l count b = first_refusal (crossing_tests tol l count b)
 -- where the tests pass, whether the trace crosses
 abbrev pub answer_of : Verdict → Bool → Crossed
 answer_of (Err r) crosses = Err r
-answer_of (Ok u) crosses = pick crosses (Ok true) (Ok false)
+answer_of (Ok u) crosses = Ok crosses
 
 -- the public crossing
 unfoldable pub crossing_of : Tolerance → List Float → ℕ → Aabb → Crossed

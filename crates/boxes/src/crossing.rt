@@ -6,32 +6,20 @@ use crate::boxtree::Aabb;
 use crate::marching;
 use geometry::{Point3D, Tolerance};
 use groups::row::{point_from, rows};
-use refusal::{Refusal, Verdict};
-
-// The answer of the public crossing.
-#[derive(Clone, Copy)]
-pub enum Crossed {
-    Yes,
-    No,
-    Refused(Refusal),
-}
+use refusal::{Refusal, asked};
 
 // No low side lies above its high side.
 fn sides_fit(b: Aabb) -> bool
     ensures { result ≡ sides_fit b }
 {
-    let low = b.low;
-    let high = b.high;
-    !(high.x < low.x) && (!(high.y < low.y) && !(high.z < low.z))
+    !(b.high.x < b.low.x) && (!(b.high.y < b.low.y) && !(b.high.z < b.low.z))
 }
 
 // What refusal 17 lets through.
 fn box_fit(b: Aabb) -> bool
     ensures { result ≡ box_fit b }
 {
-    let low = b.low;
-    let high = b.high;
-    low.is_fit() && (high.is_fit() && sides_fit(b))
+    b.low.is_fit() && (b.high.is_fit() && sides_fit(b))
 }
 
 // Whether refusal 18 stops one of the points.
@@ -44,41 +32,20 @@ fn some_unfit(points: &[f64], count: usize) -> bool
 }
 
 // Refusals 5, 8, 12 (count only), 18 and 17, in this order.
-fn crossing_fitness(tol: Tolerance, points: &[f64], count: usize, b: Aabb) -> Verdict
+fn crossing_fitness(tol: Tolerance, points: &[f64], count: usize, b: Aabb) -> Result<(), Refusal>
     ensures { result ≡ crossing_fitness tol points.now count b }
 {
-    if !tol.is_fit() {
-        return Verdict::Refused(Refusal::Tolerance);
-    }
-    if !groups::holds(points, count) {
-        return Verdict::Refused(Refusal::Lent);
-    }
-    if !groups::count_fits(count) {
-        return Verdict::Refused(Refusal::Claim);
-    }
-    if some_unfit(points, count) {
-        return Verdict::Refused(Refusal::Coordinate);
-    }
-    if box_fit(b) {
-        Verdict::Passed
-    } else {
-        Verdict::Refused(Refusal::BoxNumber)
-    }
+    asked(tol.is_fit(), Refusal::Tolerance)?;
+    asked(groups::holds(points, count), Refusal::Lent)?;
+    asked(groups::count_fits(count), Refusal::Claim)?;
+    asked(!some_unfit(points, count), Refusal::Coordinate)?;
+    asked(box_fit(b), Refusal::BoxNumber)
 }
 
 // Whether the trace of `count` points passes through the box, grown by 8000 times confusion, or the refusal.
-pub fn crossing(tol: Tolerance, points: &[f64], count: usize, b: Aabb) -> Crossed
+pub fn crossing(tol: Tolerance, points: &[f64], count: usize, b: Aabb) -> Result<bool, Refusal>
     ensures { result ≡ crossing_of tol points.now count b }
 {
-    let fitness = crossing_fitness(tol, points, count, b);
-    match fitness {
-        Verdict::Refused(refusal) => Crossed::Refused(refusal),
-        Verdict::Passed => {
-            if marching::crosses(points, count, b, tol.confusion) {
-                Crossed::Yes
-            } else {
-                Crossed::No
-            }
-        }
-    }
+    crossing_fitness(tol, points, count, b)?;
+    Ok(marching::crosses(points, count, b, tol.confusion))
 }

@@ -9,4 +9,3 @@ mod marching;
 mod pieces;
 
 pub use boxtree::Aabb;
-pub use crossing::Crossed;

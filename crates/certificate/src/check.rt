@@ -8,7 +8,7 @@ use geometry::{Point3D, Tolerance};
 use groups::Row;
 use groups::row::row_of;
 use patch::{Parameters, Patch};
-use refusal::{Refusal, Verdict};
+use refusal::{Refusal, asked};
 
 fn finite_point(p: Point3D) -> bool
     ensures { result ≡ finite_point p }
@@ -51,8 +51,7 @@ fn chord_fits(before: Row, row: Row, count: usize, closing: usize, i: usize) -> 
     if closing_chord(count, closing, i) {
         return true;
     }
-    let p = row.point();
-    p.within(before.point(), LONGEST_CHORD)
+    row.point().within(before.point(), LONGEST_CHORD)
 }
 
 // Refusals 14, 13, 15 and 16 of point i.
@@ -65,7 +64,7 @@ fn point_verdict(
     count: usize,
     closing: usize,
     i: usize,
-) -> Verdict
+) -> Result<(), Refusal>
     requires { 0 < count }
     ensures { result ≡ point_verdict (is_own a) a b confusion before row count closing i }
 {
@@ -75,23 +74,15 @@ fn point_verdict(
         u2: row.u2,
         v2: row.v2,
     };
-    if !patch::inside(a, b, x) {
-        return Verdict::Refused(Refusal::OutsideWindow(i as u64));
-    }
-    let on = a.surface;
-    let fresh = on.eval_point(x.u1, x.v1);
-    if !own(row.point(), fresh) {
-        return Verdict::Refused(Refusal::NotOwnPoint(i as u64));
-    }
-    let other = b.surface;
-    if !fresh.within(other.eval_point(x.u2, x.v2), confusion) {
-        return Verdict::Refused(Refusal::Gap(i as u64));
-    }
-    if chord_fits(before, row, count, closing, i) {
-        Verdict::Passed
-    } else {
-        Verdict::Refused(Refusal::Chord(i as u64))
-    }
+    asked(patch::inside(a, b, x), Refusal::OutsideWindow(i as u64))?;
+    let fresh = a.surface.eval_point(x.u1, x.v1);
+    asked(own(row.point(), fresh), Refusal::NotOwnPoint(i as u64))?;
+    let other = b.surface.eval_point(x.u2, x.v2);
+    asked(fresh.within(other, confusion), Refusal::Gap(i as u64))?;
+    asked(
+        chord_fits(before, row, count, closing, i),
+        Refusal::Chord(i as u64),
+    )
 }
 
 // The first refusal of a point. Each row is read once.
@@ -102,22 +93,16 @@ fn points_verdict(
     points: &[f64],
     count: usize,
     closing: usize,
-) -> Verdict
+) -> Result<(), Refusal>
     ensures { result ≡ points_verdict (is_own a) a b confusion (row_of points.now) count closing }
 {
     let mut before = row_of(points, 0);
     for i in 0..count {
         let row = row_of(points, i);
-        let verdict = point_verdict(a, b, confusion, before, row, count, closing, i);
-        match verdict {
-            Verdict::Refused(refusal) => {
-                return Verdict::Refused(refusal);
-            }
-            Verdict::Passed => {}
-        }
+        point_verdict(a, b, confusion, before, row, count, closing, i)?;
         before = row;
     }
-    Verdict::Passed
+    Ok(())
 }
 
 // Whether all numbers of two points are equal in bits.
@@ -164,20 +149,11 @@ pub fn check(
     count: usize,
     start: usize,
     closing: usize,
-) -> Verdict
+) -> Result<(), Refusal>
     ensures { result ≡ check_of a b tol trace.now count start closing }
 {
-    let pair = patch::pair_fitness(a, b, tol);
-    match pair {
-        Verdict::Refused(refusal) => Verdict::Refused(refusal),
-        Verdict::Passed => {
-            if !groups::holds(trace, count) {
-                return Verdict::Refused(Refusal::Lent);
-            }
-            if !claim_so(trace, count, start, closing) {
-                return Verdict::Refused(Refusal::Claim);
-            }
-            points_verdict(a, b, tol.confusion, trace, count, closing)
-        }
-    }
+    patch::pair_fitness(a, b, tol)?;
+    asked(groups::holds(trace, count), Refusal::Lent)?;
+    asked(claim_so(trace, count, start, closing), Refusal::Claim)?;
+    points_verdict(a, b, tol.confusion, trace, count, closing)
 }

@@ -1,4 +1,4 @@
-use mathlib.Core.Path.{sym, ◌∙◌}
+use Rattle.std.proofs.Common.{◌≡◌, Err, sym, ◌∙◌, rules}
 use native.Mathlib.Omega.{arith}
 use Rattle.boxes.specs.Crossing.{crossing_of}
 use Rattle.boxes.proofs.Counted.{tests_fit}
@@ -7,18 +7,16 @@ use Rattle.boxes.proofs.crossing.crossing.Goals as goal
 pub crosses-requires : goal.crosses-requires
 crosses-requires c =
     let g = c.args in
-    let h = tests_fit g.tol g.points.now g.count g.b (sym c.crossing_fitness-fitness.ensures ∙ c.in-Ok.is) in
+    let h = tests_fit g.tol g.points.now g.count g.b (sym c.crossing_fitness.ensures ∙ c.in_ok-crossing_fitness.was) in
     let low = h.least in
     (omega (arith, low), h.lent)
 
-pub returns-in-Refused : goal.returns-in-Refused
+pub returns-in_err-crossing_fitness : goal.returns-in_err-crossing_fitness
 unfolding crossing_of
-returns-in-Refused c = rw (← c.crossing_fitness-fitness.ensures, c.in-Refused.is)
+returns-in_err-crossing_fitness c =
+    let e : c.from_residual.result ≡ Err c.in_err-crossing_fitness.field-0.0 = search rules in
+    rw (e, ← c.crossing_fitness.ensures, c.in_err-crossing_fitness.was)
 
-pub returns-then-crosses : goal.returns-then-crosses
+pub returns : goal.returns
 unfolding crossing_of
-returns-then-crosses c = rw (← c.crossing_fitness-fitness.ensures, c.in-Ok.is, ← c.crosses.ensures, c.if-crosses.true)
-
-pub returns-else-crosses : goal.returns-else-crosses
-unfolding crossing_of
-returns-else-crosses c = rw (← c.crossing_fitness-fitness.ensures, c.in-Ok.is, ← c.crosses.ensures, c.if-crosses.false)
+returns c = rw (← c.crossing_fitness.ensures, c.in_ok-crossing_fitness.was, ← c.crosses.ensures)

@@ -1,47 +1,41 @@
--- Each way out has its tests; t, h, n, u, f are the places of the five calls.
-use borrow.Author.Tests.{not-false, not-true}
-use mathlib.Core.Path.{sym, ◌∙◌}
-use Rattle.groups.specs.Groups.{width}
+use Rattle.std.proofs.Common.{◌≡◌, not, sym, ap, ◌∙◌, rules}
+use Rattle.refusal.specs.declared.Refusal.TheVariants as refusal
+use Rattle.refusal.proofs.Order.{passed_then, refused_then, last_then, asked_as, asked_held}
+use Rattle.groups.specs.Groups.{width, holds_of}
 use Rattle.groups.proofs.Groups.{holds_length}
 use Rattle.boxes.specs.Crossing.{crossing_fitness}
 use Rattle.boxes.proofs.crossing.crossing_fitness.Goals as goal
 
-pub returns-then-not-is_fit : goal.returns-then-not-is_fit
-unfolding crossing_fitness
-returns-then-not-is_fit c = rw (← c.is_fit.ensures, not-true c.is_fit.result c.if-not-is_fit.true-raw)
-
-pub returns-then-not-holds : goal.returns-then-not-holds
-unfolding crossing_fitness
-returns-then-not-holds c = rw (← c.is_fit.ensures, not-false c.is_fit.result c.if-not-is_fit.false-raw, ← c.holds.ensures, not-true c.holds.result c.if-not-holds.true-raw)
-
-pub returns-then-not-count_fits : goal.returns-then-not-count_fits
-unfolding crossing_fitness
-returns-then-not-count_fits c =
-    let fit = not-false c.is_fit.result c.if-not-is_fit.false-raw in let held = not-false c.holds.result c.if-not-holds.false-raw in
-    rw (← c.is_fit.ensures, fit, ← c.holds.ensures, held, ← c.count_fits.ensures, not-true c.count_fits.result c.if-not-count_fits.true-raw)
-
 pub some_unfit-requires : goal.some_unfit-requires
 some_unfit-requires c =
     let g = c.args in
-    holds_length width g.points.now g.count (sym c.holds.ensures ∙ not-false c.holds.result c.if-not-holds.false-raw)
+    let held = asked_held (holds_of width g.points.now g.count) refusal.Lent (sym (asked_as refusal.Lent c.asked-2.ensures c.holds.ensures) ∙ c.in_ok-asked-2.was) in
+    holds_length width g.points.now g.count held
 
-pub returns-then-some_unfit : goal.returns-then-some_unfit
+pub returns-in_err-asked : goal.returns-in_err-asked
 unfolding crossing_fitness
-returns-then-some_unfit c =
-    let fit = not-false c.is_fit.result c.if-not-is_fit.false-raw in let held = not-false c.holds.result c.if-not-holds.false-raw in
-    let counted = not-false c.count_fits.result c.if-not-count_fits.false-raw in
-    rw (← c.is_fit.ensures, fit, ← c.holds.ensures, held, ← c.count_fits.ensures, counted, ← c.some_unfit.ensures, c.if-some_unfit.true)
+returns-in_err-asked c =
+    let e : c.from_residual.result ≡ c.asked.result = search rules in
+    e ∙ refused_then _ (asked_as refusal.Tolerance c.asked.ensures c.is_fit.ensures) c.in_err-asked.was
 
-pub returns-then-box_fit : goal.returns-then-box_fit
+pub returns-in_err-asked-2 : goal.returns-in_err-asked-2
 unfolding crossing_fitness
-returns-then-box_fit c =
-    let fit = not-false c.is_fit.result c.if-not-is_fit.false-raw in let held = not-false c.holds.result c.if-not-holds.false-raw in
-    let counted = not-false c.count_fits.result c.if-not-count_fits.false-raw in
-    rw (← c.is_fit.ensures, fit, ← c.holds.ensures, held, ← c.count_fits.ensures, counted, ← c.some_unfit.ensures, c.if-some_unfit.false, ← c.box_fit.ensures, c.if-box_fit.true)
+returns-in_err-asked-2 c =
+    let e : c.from_residual-in_err-asked-2.result ≡ c.asked-2.result = search rules in
+    passed_then (asked_as refusal.Tolerance c.asked.ensures c.is_fit.ensures) c.in_ok-asked.was (e ∙ refused_then _ (asked_as refusal.Lent c.asked-2.ensures c.holds.ensures) c.in_err-asked-2.was)
 
-pub returns-else-box_fit : goal.returns-else-box_fit
+pub returns-in_err-asked-3 : goal.returns-in_err-asked-3
 unfolding crossing_fitness
-returns-else-box_fit c =
-    let fit = not-false c.is_fit.result c.if-not-is_fit.false-raw in let held = not-false c.holds.result c.if-not-holds.false-raw in
-    let counted = not-false c.count_fits.result c.if-not-count_fits.false-raw in
-    rw (← c.is_fit.ensures, fit, ← c.holds.ensures, held, ← c.count_fits.ensures, counted, ← c.some_unfit.ensures, c.if-some_unfit.false, ← c.box_fit.ensures, c.if-box_fit.false)
+returns-in_err-asked-3 c =
+    let e : c.from_residual-in_err-asked-3.result ≡ c.asked-3.result = search rules in
+    passed_then (asked_as refusal.Tolerance c.asked.ensures c.is_fit.ensures) c.in_ok-asked.was (passed_then (asked_as refusal.Lent c.asked-2.ensures c.holds.ensures) c.in_ok-asked-2.was (e ∙ refused_then _ (asked_as refusal.Claim c.asked-3.ensures c.count_fits.ensures) c.in_err-asked-3.was))
+
+pub returns-in_err-asked-4 : goal.returns-in_err-asked-4
+unfolding crossing_fitness
+returns-in_err-asked-4 c =
+    let e : c.from_residual-in_err-asked-4.result ≡ c.asked-4.result = search rules in
+    passed_then (asked_as refusal.Tolerance c.asked.ensures c.is_fit.ensures) c.in_ok-asked.was (passed_then (asked_as refusal.Lent c.asked-2.ensures c.holds.ensures) c.in_ok-asked-2.was (passed_then (asked_as refusal.Claim c.asked-3.ensures c.count_fits.ensures) c.in_ok-asked-3.was (e ∙ refused_then _ (asked_as refusal.Coordinate c.asked-4.ensures (ap not c.some_unfit.ensures)) c.in_err-asked-4.was)))
+
+pub returns : goal.returns
+unfolding crossing_fitness
+returns c = passed_then (asked_as refusal.Tolerance c.asked.ensures c.is_fit.ensures) c.in_ok-asked.was (passed_then (asked_as refusal.Lent c.asked-2.ensures c.holds.ensures) c.in_ok-asked-2.was (passed_then (asked_as refusal.Claim c.asked-3.ensures c.count_fits.ensures) c.in_ok-asked-3.was (passed_then (asked_as refusal.Coordinate c.asked-4.ensures (ap not c.some_unfit.ensures)) c.in_ok-asked-4.was (last_then (asked_as refusal.BoxNumber c.asked-5.ensures c.box_fit.ensures)))))

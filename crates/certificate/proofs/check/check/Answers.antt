@@ -1,26 +1,27 @@
--- Each way out has its tests; p, h, s are the places of the pair's, the count's and the claim's.
-use borrow.Author.Tests.{not-false, not-true}
-use mathlib.Core.Path.{sym, ◌∙◌}
-use Rattle.refusal.proofs.Order.{last_test_lem}
+use Rattle.std.proofs.Common.{◌≡◌, ◌∙◌, rules}
+use Rattle.refusal.specs.declared.Refusal.TheVariants as refusal
+use Rattle.refusal.proofs.Order.{passed_then, refused_then, last_then, asked_as}
 use Rattle.certificate.specs.Check.{check_of}
 use Rattle.certificate.proofs.check.check.Goals as goal
 
-pub returns-then-not-holds : goal.returns-then-not-holds
+pub returns-in_err-pair_fitness : goal.returns-in_err-pair_fitness
 unfolding check_of
-returns-then-not-holds c = rw (← c.pair_fitness-pair.ensures, c.in-Ok.is, ← c.holds.ensures, not-true c.holds.result c.if-not-holds.true-raw)
+returns-in_err-pair_fitness c =
+    let e : c.from_residual.result ≡ c.pair_fitness.result = search rules in
+    e ∙ refused_then _ c.pair_fitness.ensures c.in_err-pair_fitness.was
 
-pub returns-then-not-claim_so : goal.returns-then-not-claim_so
+pub returns-in_err-asked : goal.returns-in_err-asked
 unfolding check_of
-returns-then-not-claim_so c =
-    let held = not-false c.holds.result c.if-not-holds.false-raw in
-    rw (← c.pair_fitness-pair.ensures, c.in-Ok.is, ← c.holds.ensures, held, ← c.claim_so.ensures, not-true c.claim_so.result c.if-not-claim_so.true-raw)
+returns-in_err-asked c =
+    let e : c.from_residual-in_err-asked.result ≡ c.asked.result = search rules in
+    passed_then c.pair_fitness.ensures c.in_ok-pair_fitness.was (e ∙ refused_then _ (asked_as refusal.Lent c.asked.ensures c.holds.ensures) c.in_err-asked.was)
 
-pub returns-in-Refused : goal.returns-in-Refused
+pub returns-in_err-asked-2 : goal.returns-in_err-asked-2
 unfolding check_of
-returns-in-Refused c = rw (← c.pair_fitness-pair.ensures, c.in-Refused.is)
+returns-in_err-asked-2 c =
+    let e : c.from_residual-in_err-asked-2.result ≡ c.asked-2.result = search rules in
+    passed_then c.pair_fitness.ensures c.in_ok-pair_fitness.was (passed_then (asked_as refusal.Lent c.asked.ensures c.holds.ensures) c.in_ok-asked.was (e ∙ refused_then _ (asked_as refusal.Claim c.asked-2.ensures c.claim_so.ensures) c.in_err-asked-2.was))
 
-pub returns-else-not-claim_so : goal.returns-else-not-claim_so
+pub returns : goal.returns
 unfolding check_of
-returns-else-not-claim_so c =
-    let held = not-false c.holds.result c.if-not-holds.false-raw in let so = not-false c.claim_so.result c.if-not-claim_so.false-raw in
-    rw (← c.pair_fitness-pair.ensures, c.in-Ok.is, ← c.holds.ensures, held, ← c.claim_so.ensures, so) (c.points_verdict.ensures ∙ sym (last_test_lem _))
+returns c = passed_then c.pair_fitness.ensures c.in_ok-pair_fitness.was (passed_then (asked_as refusal.Lent c.asked.ensures c.holds.ensures) c.in_ok-asked.was (passed_then (asked_as refusal.Claim c.asked-2.ensures c.claim_so.ensures) c.in_ok-asked-2.was (last_then c.points_verdict.ensures)))

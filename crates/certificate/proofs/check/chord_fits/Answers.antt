@@ -17,4 +17,4 @@ returns-then-closing_chord c =
 
 pub returns : goal.returns
 unfolding chord_fits
-returns c = rw (c.within.ensures, c.point.ensures, c.point-p.ensures, ne_eqb _ _ c.if-i-eq0.false, ← c.closing_chord.ensures, c.if-closing_chord.false)
+returns c = rw (c.within.ensures, c.point.ensures, c.point-2.ensures, ne_eqb _ _ c.if-i-eq0.false, ← c.closing_chord.ensures, c.if-closing_chord.false)

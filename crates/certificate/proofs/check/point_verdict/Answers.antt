@@ -1,41 +1,27 @@
--- Each way out has its tests; n, o, g are the places of the window's, the point's and the gap's.
-use borrow.Author.Tests.{not-false, not-true}
-use mathlib.Core.Path.{◌≡◌}
-use Rattle.patch.specs.Patch.{inside_of}
-use Rattle.certificate.specs.Passes.{parameters_in}
+use Rattle.std.proofs.Common.{◌≡◌, ◌∙◌, rules}
+use Rattle.refusal.specs.declared.Refusal.TheVariants as refusal
+use Rattle.refusal.proofs.Order.{passed_then, refused_then, last_then, asked_as}
 use Rattle.certificate.specs.Check.{point_verdict}
 use Rattle.certificate.proofs.check.point_verdict.Goals as goal
 
-pub returns-then-not-inside : goal.returns-then-not-inside
+pub returns-in_err-asked : goal.returns-in_err-asked
 unfolding point_verdict
-returns-then-not-inside c =
-    let g = c.args in
-    let inside : c.inside.result ≡ inside_of g.a g.b (parameters_in g.row) = c.inside.ensures in
-    rw (← inside, not-true c.inside.result c.if-not-inside.true-raw)
+returns-in_err-asked c =
+    let e : c.from_residual.result ≡ c.asked.result = search rules in
+    e ∙ refused_then _ (asked_as (refusal.OutsideWindow c.args.i) c.asked.ensures c.inside.ensures) c.in_err-asked.was
 
-pub returns-then-not-own : goal.returns-then-not-own
+pub returns-in_err-asked-2 : goal.returns-in_err-asked-2
 unfolding point_verdict
-returns-then-not-own c =
-    let in-windows = not-false c.inside.result c.if-not-inside.false-raw in
-    rw (← c.inside.ensures, in-windows, ← c.eval_point-fresh.ensures, ← c.point.ensures, ← c.own.ensures, not-true c.own.result c.if-not-own.true-raw)
+returns-in_err-asked-2 c =
+    let e : c.from_residual-in_err-asked-2.result ≡ c.asked-2.result = search rules in
+    passed_then (asked_as (refusal.OutsideWindow c.args.i) c.asked.ensures c.inside.ensures) c.in_ok-asked.was (e ∙ refused_then _ (asked_as (refusal.NotOwnPoint c.args.i) c.asked-2.ensures (rw (c.point.ensures, c.eval_point-fresh.ensures) at c.own.ensures)) c.in_err-asked-2.was)
 
-pub returns-then-not-within : goal.returns-then-not-within
+pub returns-in_err-asked-3 : goal.returns-in_err-asked-3
 unfolding point_verdict
-returns-then-not-within c =
-    let in-windows = not-false c.inside.result c.if-not-inside.false-raw in
-    let is_own_lem = not-false c.own.result c.if-not-own.false-raw in
-    rw (← c.inside.ensures, in-windows, ← c.eval_point-fresh.ensures, ← c.point.ensures, ← c.own.ensures, is_own_lem, ← c.eval_point.ensures, ← c.within.ensures, not-true c.within.result c.if-not-within.true-raw)
+returns-in_err-asked-3 c =
+    let e : c.from_residual-in_err-asked-3.result ≡ c.asked-3.result = search rules in
+    passed_then (asked_as (refusal.OutsideWindow c.args.i) c.asked.ensures c.inside.ensures) c.in_ok-asked.was (passed_then (asked_as (refusal.NotOwnPoint c.args.i) c.asked-2.ensures (rw (c.point.ensures, c.eval_point-fresh.ensures) at c.own.ensures)) c.in_ok-asked-2.was (e ∙ refused_then _ (asked_as (refusal.Gap c.args.i) c.asked-3.ensures (rw (c.eval_point-fresh.ensures, c.eval_point-other.ensures) at c.within.ensures)) c.in_err-asked-3.was))
 
-pub returns-then-chord_fits : goal.returns-then-chord_fits
+pub returns : goal.returns
 unfolding point_verdict
-returns-then-chord_fits c =
-    let in-windows = not-false c.inside.result c.if-not-inside.false-raw in
-    let is_own_lem = not-false c.own.result c.if-not-own.false-raw in let near = not-false c.within.result c.if-not-within.false-raw in
-    rw (← c.inside.ensures, in-windows, ← c.eval_point-fresh.ensures, ← c.point.ensures, ← c.own.ensures, is_own_lem, ← c.eval_point.ensures, ← c.within.ensures, near, ← c.chord_fits.ensures, c.if-chord_fits.true)
-
-pub returns-else-chord_fits : goal.returns-else-chord_fits
-unfolding point_verdict
-returns-else-chord_fits c =
-    let in-windows = not-false c.inside.result c.if-not-inside.false-raw in
-    let is_own_lem = not-false c.own.result c.if-not-own.false-raw in let near = not-false c.within.result c.if-not-within.false-raw in
-    rw (← c.inside.ensures, in-windows, ← c.eval_point-fresh.ensures, ← c.point.ensures, ← c.own.ensures, is_own_lem, ← c.eval_point.ensures, ← c.within.ensures, near, ← c.chord_fits.ensures, c.if-chord_fits.false)
+returns c = passed_then (asked_as (refusal.OutsideWindow c.args.i) c.asked.ensures c.inside.ensures) c.in_ok-asked.was (passed_then (asked_as (refusal.NotOwnPoint c.args.i) c.asked-2.ensures (rw (c.point.ensures, c.eval_point-fresh.ensures) at c.own.ensures)) c.in_ok-asked-2.was (passed_then (asked_as (refusal.Gap c.args.i) c.asked-3.ensures (rw (c.eval_point-fresh.ensures, c.eval_point-other.ensures) at c.within.ensures)) c.in_ok-asked-3.was (last_then (asked_as (refusal.Chord c.args.i) c.asked-4.ensures c.chord_fits.ensures))))
