@@ -5,7 +5,7 @@ use mathlib.Core.List.{List}
 use Prim.Native.Nat.{ℕ}
 use Rattle.refusal.specs.declared.Refusal.{Refusal}
 use Rattle.refusal.proofs.Laws.{number_not_0}
-use Rattle.groups.specs.Traced.{TraceAnswer}
+use Rattle.groups.specs.Traced.{code_of, TraceAnswer}
 use Rattle.walk.specs.Trace.{trace_of}
 use Rattle.job.specs.declared.file.Job.{Job}
 use Rattle.job.specs.File.{JobRead}
@@ -21,9 +21,9 @@ module _ (bytes : List ℕ) where
   traced_tells : (j : Job) → job_of bytes ≡ Ok j → (t : TraceAnswer) → (trace_of j.a j.b j.tol j.guess j.cap lent_numbers).answer ≡ t → Tells bytes (answer_line t)
   unfolding answer_line
   traced_tells j e (Err r) q = refused_tells r
-  traced_tells j e (line_of_three count start closing) q =
+  traced_tells j e (Ok t) q =
       let p = trace_promised j.a j.b j.tol j.guess j.cap lent_numbers (sym q) refl in
-      tells_trace _ count start closing refl (record { job = j; read = e; passes = p.passes refl; exact = p.exact refl })
+      tells_trace _ t.count t.start (code_of t.closing) refl (record { job = j; read = e; passes = p.passes refl; exact = p.exact refl })
 
   pub line_tells : Tells bytes (job_answer bytes)
   unfolding job_answer answer_of

@@ -9,44 +9,42 @@ ghost use Rattle.answer.specs.Answer.{answer_line, answer_of, LinePromise};
 
 use crate::line::LINE;
 use groups::Traced;
-use job::JobRead;
+use refusal::Refusal;
 
 // How many numbers the job program lends.
 const LENT: usize = 7007;
 
 // Puts the answer's line at the front of the lent bytes; how many it has.
-fn put_line(answer: Traced, line: &mut [u8; LINE]) -> usize
+fn put_line(answer: Result<Traced, Refusal>, line: &mut [u8; LINE]) -> usize
     ensures { (result ≡ length (answer_line answer)) × (line.new ≡ written (answer_line answer) line.old) }
 {
     match answer {
-        Traced::Line {
-            count,
-            start,
-            closing,
-        } => { crate::line::trace_line(count as u64, start as u64, closing as u64, line) }
-        Traced::Refused(refusal) => crate::line::refused_line(refusal.number(), line),
+        Ok(t) => {
+            crate::line::trace_line(
+                t.count as u64,
+                t.start as u64,
+                t.closing.code() as u64,
+                line,
+            )
+        }
+        Err(refusal) => crate::line::refused_line(refusal.number(), line),
     }
 }
 
 // The answer to a job: refusal 19 of its file, or what the walk answers over the numbers lent.
-fn answer_of(input: &[u8]) -> Traced
+fn answer_of(input: &[u8]) -> Result<Traced, Refusal>
     ensures { result ≡ answer_of input.now }
 {
-    let read = job::file::read(input);
-    match read {
-        JobRead::Refused(refusal) => Traced::Refused(refusal),
-        JobRead::Whole(asked) => {
-            let mut lent = [0.0; LENT];
-            geomcore::call::trace(
-                asked.a,
-                asked.b,
-                asked.tol,
-                asked.guess,
-                asked.cap,
-                &mut lent,
-            )
-        }
-    }
+    let asked = job::file::read(input)?;
+    let mut lent = [0.0; LENT];
+    geomcore::call::trace(
+        asked.a,
+        asked.b,
+        asked.tol,
+        asked.guess,
+        asked.cap,
+        &mut lent,
+    )
 }
 
 // Puts the line that answers a job file at the front of the lent bytes; how many it has. It is a `trace` line only of a line that passes.

@@ -18,7 +18,8 @@ use Rattle.certificate.specs.Passes.{Passes}
 use Rattle.refusal.specs.Verdict as verdict
 use Rattle.certificate.proofs.Index.{check_index, code_small}
 use Rattle.groups.specs.Traced.{TraceAnswer}
-use Rattle.groups.specs.Traced.{count_of, start_of, closing_of}
+use Rattle.groups.specs.declared.traced.Traced.{Traced}
+use Rattle.groups.specs.Traced.{code_of, count_of, start_of, closing_of}
 use Rattle.groups.specs.Traced as trace
 use Rattle.job.specs.declared.file.Job.{Job}
 use Rattle.job.specs.File.{JobRead}
@@ -57,7 +58,7 @@ module _ {a b : Patch} {tol : Tolerance} {guess : Parameters} {cap : ℕ} {befor
   -- what `trace` answers has room in a word
   pub bounded : (r : TraceAnswer) → TracePromise a b tol guess cap before after r → Bounded r
   bounded (Err q) p = record { count = omega arith; start = omega arith; closing = omega arith; round = (added_fits q p).0; column = (added_fits q p).1 }
-  bounded (line_of_three count start closing) p =
+  bounded (Ok t) p =
       let h = p.passes refl in
       let m = h.most in
       let s = h.among in
@@ -65,7 +66,7 @@ module _ {a b : Patch} {tol : Tolerance} {guess : Parameters} {cap : ℕ} {befor
       record { count = omega (arith, m); start = omega (arith, m, s); closing = omega (arith, k); round = omega arith; column = omega arith }
 
 -- so a line has
-pub line_fits : {t : TraceAnswer} {count start closing : ℕ} → t ≡ line_of_three count start closing → Bounded t → (count < 4294967296) × ((start < 65536) × (closing < 256))
+pub line_fits : {r : TraceAnswer} {t : Traced} → r ≡ Ok t → Bounded r → (t.count < 4294967296) × ((t.start < 65536) × (code_of t.closing < 256))
 line_fits e h = let b = subst Bounded e h in (b.count, (b.start, b.closing))
 
 pub added_told : {t : TraceAnswer} {q : Refusal} → t ≡ Err q → Bounded t → (round_of q < 256) × (column_of q < 65536)
@@ -87,9 +88,9 @@ module _ (code start count : ℕ) (h : code < 256) where
     count_part : (code * 2 ^ 8 + start * 2 ^ 16 + count * 2 ^ 32) / 2 ^ 32 ≡ count
     count_part = omega (arith, h, k)
 
-line_number : (count start closing : ℕ) → number_in (traced_word (line_of_three count start closing)) ≡ 0
+line_number : (t : Traced) → number_in (traced_word (Ok t)) ≡ 0
 unfolding traced_word
-line_number count start closing = let e : (closing * 256 + start * 65536 + count * 4294967296) % 256 ≡ 0 = omega arith in e
+line_number t = let e : (code_of t.closing * 256 + t.start * 65536 + t.count * 4294967296) % 256 ≡ 0 = omega arith in e
 
 -- the parts of a refusal's word
 refused_number : (q : Refusal) → number_in (traced_word (Err q)) ≡ number_of q
@@ -115,8 +116,8 @@ pub parts : (r : TraceAnswer) → Bounded r → number_in (traced_word r) ≡ 0
     → (trace.refusal_of r ≡ 0) × (count_in (traced_word r) ≡ count_of r) × (start_in (traced_word r) ≡ start_of r) × (closing_in (traced_word r) ≡ closing_of r)
 unfolding traced_word
 parts (Err q) b z = absurd (unlike_zero q (let h = refused_number q in let e : number_of q % 256 ≡ 0 = omega (arith, h, z) in e))
-parts (line_of_three count start closing) b z =
-    (refl, count_part closing start count b.closing b.start, start_part closing start count b.closing b.start, code_part closing start count b.closing)
+parts (Ok t) b z =
+    (refl, count_part (code_of t.closing) t.start t.count b.closing b.start, start_part (code_of t.closing) t.start t.count b.closing b.start, code_part (code_of t.closing) t.start t.count b.closing)
 
 -- two readings of the same bytes
 abbrev job_in : Job → JobRead → Job
@@ -141,10 +142,10 @@ module _ (bytes : List ℕ) (j : Job) (read : job_of bytes ≡ Ok j) (before aft
       let e = by_number q _ _ (sym (refused_number q) ∙ z) in
       let h = added_fits q p in
       rw (refused_round q h.0, refused_column q h.0 h.1) (record { job = j; read = read; guess = g (round_of q) (column_of q) (ap Err e) })
-  told refused by_number (line_of_three count start closing) p g z =
-      let w = traced_word (line_of_three count start closing) in
+  told refused by_number (Ok t) p g z =
+      let w = traced_word (Ok t) in
       let k = number_positive (refused (round_in w) (column_in w)) in
-      let e = line_number count start closing in
+      let e = line_number t in
       absurd (let y : ⊥ = omega (arith, k, e, z) in y)
 
   -- 9 has no column
@@ -152,7 +153,7 @@ module _ (bytes : List ℕ) (j : Job) (read : job_of bytes ≡ Ok j) (before aft
   columnless (Err q) p z =
       let h = added_fits q p in
       refused_column q h.0 h.1 ∙ ap column_of (told_unmet q 0 (sym (refused_number q) ∙ z))
-  columnless (line_of_three count start closing) p z = absurd (let e = line_number count start closing in let y : ⊥ = omega (arith, e, z) in y)
+  columnless (Ok t) p z = absurd (let e = line_number t in let y : ⊥ = omega (arith, e, z) in y)
 
   pub traced_word_lem : {r : TraceAnswer} {w : ℕ} → TracePromise j.a j.b j.tol j.guess j.cap before after r → w ≡ traced_word r → TraceWord bytes before after w
   unfolding trace_answer

@@ -5,7 +5,7 @@ use Rattle.refusal.specs.declared.Refusal.TheVariants as variant
 use Rattle.refusal.specs.Refusal.{number_of}
 use Rattle.refusal.specs.Refusal as refusal
 use Rattle.groups.specs.Traced.{TraceAnswer}
-use Rattle.groups.specs.Traced.{Outcome, count_of, start_of, round_of, column_of, closing_of}
+use Rattle.groups.specs.Traced.{code_of, Outcome, count_of, start_of, round_of, column_of, closing_of}
 use Rattle.meeting.specs.Newton.{most_rounds}
 use Rattle.walk.specs.Trace.{trace_of}
 use Rattle.job.specs.File.{JobRead}
@@ -16,7 +16,7 @@ use Rattle.capi.specs.Answer.{Answer, answered, number_in, closing_in, round_in,
 -- of a line 2^8 times the closing code + 2^16 times the start's index + 2^32 times the count; of a refusal its number + 2^8 times the Newton round that 9
 -- and 21 add + 2^16 times the column that 21 adds (include/geomcore.h)
 unfoldable pub traced_word : TraceAnswer → ℕ
-traced_word (line_of_three count start closing) = closing * 2 ^ 8 + start * 2 ^ 16 + count * 2 ^ 32
+traced_word (Ok t) = code_of t.closing * 2 ^ 8 + t.start * 2 ^ 16 + t.count * 2 ^ 32
 traced_word (Err r) = number_of r + refusal.round_of r * 2 ^ 8 + refusal.column_of r * 2 ^ 16
 
 -- each part of an answer has room in its place of the word

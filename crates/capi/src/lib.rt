@@ -16,13 +16,11 @@ ghost use Rattle.fdlibm.specs.Sine.{sin_of, cos_of};
 ghost use Rattle.sqrt.specs.Sqrt.{SqrtGives};
 ghost use Rattle.trace_file.specs.Write.{bytes_of};
 
-use boxes::{Aabb, Crossed};
+use boxes::Aabb;
 use geometry::{Point3D, Tolerance};
 use groups::Traced;
-use job::{JobRead, SurfaceRead};
-use patch::{Located, Patch};
-use refusal::{Refusal, Verdict};
-use trace_file::Written;
+use patch::Patch;
+use refusal::Refusal;
 
 // The square root, correctly rounded.
 pub fn geomcore_sqrt(x: f64) -> f64
@@ -69,10 +67,9 @@ fn point_on(patch: Patch, u: f64, v: f64, out: &mut [f64]) -> u64
     if out.len() < 3 {
         return Refusal::Lent.number();
     }
-    let located = geomcore::call::point(patch, u, v);
-    match located {
-        Located::Refused(refusal) => refusal.number(),
-        Located::At(p) => {
+    match geomcore::call::point(patch, u, v) {
+        Err(refusal) => refusal.number(),
+        Ok(p) => {
             put(out, p.x, p.y, p.z);
             0
         }
@@ -84,10 +81,9 @@ fn point_on(patch: Patch, u: f64, v: f64, out: &mut [f64]) -> u64
 pub fn geomcore_point(surface: &[u8], u: f64, v: f64, out: &mut [f64]) -> u64
     ensures { answered result out.new ≡ point_answer surface.now u v out.old }
 {
-    let read = job::file::read_surface(surface);
-    match read {
-        SurfaceRead::Refused(refusal) => refusal.number(),
-        SurfaceRead::Whole(patch) => point_on(patch, u, v, out),
+    match job::file::read_surface(surface) {
+        Err(refusal) => refusal.number(),
+        Ok(patch) => point_on(patch, u, v, out),
     }
 }
 
@@ -101,17 +97,13 @@ fn line_word(count: usize, start: usize, code: usize) -> u64
 
 // The answer's word: the refusal's number, 2^8 times its round and 2^16 times its column, or the line's word. Each part has room in its
 // own place of it.
-fn traced_word(answer: Traced) -> u64
+fn traced_word(answer: Result<Traced, Refusal>) -> u64
     requires { Bounded answer }
     ensures { result ≡ traced_word answer }
 {
     match answer {
-        Traced::Line {
-            count,
-            start,
-            closing,
-        } => line_word(count, start, closing),
-        Traced::Refused(refusal) => {
+        Ok(t) => line_word(t.count, t.start, t.closing.code()),
+        Err(refusal) => {
             let n = refusal.numbers();
             n.number + n.round * 256 + n.column * 65536
         }
@@ -124,10 +116,9 @@ fn traced_word(answer: Traced) -> u64
 pub fn geomcore_trace(job: &[u8], buffer: &mut [f64]) -> u64
     ensures { TraceWord job.now buffer.old buffer.new result }
 {
-    let read = job::file::read(job);
-    match read {
-        JobRead::Refused(refusal) => refusal.number(),
-        JobRead::Whole(asked) => traced_word(geomcore::call::trace(
+    match job::file::read(job) {
+        Err(refusal) => refusal.number(),
+        Ok(asked) => traced_word(geomcore::call::trace(
             asked.a,
             asked.b,
             asked.tol,
@@ -147,13 +138,13 @@ fn refused_word(number: u64, index: u64) -> u64
 }
 
 // The answer's word: 0, or the refusal's word.
-fn checked_word(answer: Verdict) -> u64
+fn checked_word(answer: Result<(), Refusal>) -> u64
     requires { index_in answer < 4294967296 }
     ensures { result ≡ checked_word answer }
 {
     match answer {
-        Verdict::Passed => 0,
-        Verdict::Refused(refusal) => {
+        Ok(()) => 0,
+        Err(refusal) => {
             let n = refusal.numbers();
             refused_word(n.number, n.index)
         }
@@ -165,10 +156,9 @@ fn checked_word(answer: Verdict) -> u64
 pub fn geomcore_check(job: &[u8], buffer: &[f64], count: u64, start: u64, code: u64) -> u64
     ensures { CheckWord job.now buffer.now count start code result }
 {
-    let read = job::file::read(job);
-    match read {
-        JobRead::Refused(refusal) => refusal.number(),
-        JobRead::Whole(asked) => checked_word(geomcore::call::check(
+    match job::file::read(job) {
+        Err(refusal) => refusal.number(),
+        Ok(asked) => checked_word(geomcore::call::check(
             asked.a,
             asked.b,
             asked.tol,
@@ -181,13 +171,13 @@ pub fn geomcore_check(job: &[u8], buffer: &[f64], count: u64, start: u64, code: 
 }
 
 // The answer's word: the refusal's number, and 2^8 where the trace is crossed.
-fn crossed_word(answer: Crossed) -> u64
+fn crossed_word(answer: Result<bool, Refusal>) -> u64
     ensures { result ≡ crossed_word answer }
 {
     match answer {
-        Crossed::Yes => 256,
-        Crossed::No => 0,
-        Crossed::Refused(refusal) => refusal.number(),
+        Ok(true) => 256,
+        Ok(false) => 0,
+        Err(refusal) => refusal.number(),
     }
 }
 
@@ -225,13 +215,13 @@ pub fn geomcore_crossing(
 }
 
 // The answer's word: the refusal's number, and 2^32 times how many bytes were written.
-fn written_word(answer: Written) -> u64
+fn written_word(answer: Result<usize, Refusal>) -> u64
     requires { bytes_of answer < 4294967296 }
     ensures { result ≡ written_word answer }
 {
     match answer {
-        Written::Bytes(n) => (n as u64) * 4294967296,
-        Written::Refused(refusal) => refusal.number(),
+        Ok(n) => (n as u64) * 4294967296,
+        Err(refusal) => refusal.number(),
     }
 }
 

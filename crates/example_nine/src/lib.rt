@@ -9,6 +9,7 @@ use analytic::Surface;
 use geometry::{Frame3D, Point3D, Tolerance, Vector3D};
 use groups::Traced;
 use patch::{Parameters, Patch, Window};
+use refusal::Refusal;
 
 // The frame with axes (1, 0, 0), (0, 1, 0), (0, 0, 1) whose origin is 0 moved.
 fn moved_frame(by: Vector3D) -> Frame3D
@@ -48,7 +49,7 @@ fn square_plane(frame: Frame3D) -> Patch
 
 // Example 9: the unit frame's plane and the same one moved, the default tolerance, cap 2, guess all 0. The table says what it answers for a
 // move by nothing (10) and by (0, 0, 1) (21), and that 35 numbers lent are zero afterwards.
-pub fn nine(by: Vector3D, lent: &mut [f64]) -> Traced
+pub fn nine(by: Vector3D, lent: &mut [f64]) -> Result<Traced, Refusal>
     ensures { outcome result lent.new ≡ nine_of by lent.old }
 {
     let a = square_plane(unit_frame());

@@ -1,5 +1,5 @@
 -- The rows of the paper's charted examples marked (P), each a field whose comment is the paper's sentence. Definitions only.
-use Rattle.std.specs.Prelude.{◌≡◌, List, [], ◌∷◌, ◌++◌, ℕ, ◌-◌, false, negsuc, replicate, Float, Ok}
+use Rattle.std.specs.Prelude.{◌≡◌, List, [], ◌∷◌, ◌++◌, ℕ, ◌-◌, false, negsuc, replicate, true, Float, Some, Ok}
 use Prim.Native.Nat as nat
 use Rattle.std.specs.Float.{fin, binary64}
 use Rattle.std.specs.Float.Ieee.{to_bits}
@@ -10,7 +10,7 @@ use Rattle.geometry.specs.Tolerance.{default_tolerance}
 use Rattle.analytic.specs.declared.surface.Surface.{Surface}
 use Rattle.patch.specs.declared.patch.Patch.{Patch}
 use Rattle.patch.specs.declared.patch.Parameters.{Parameters}
-use Rattle.marching.specs.declared.leaving.Exit.TheVariants as exit
+use Rattle.marching.specs.declared.leaving.Exit.{Exit}
 use Rattle.marching.specs.Leaving.{leaving_of}
 use Rattle.boxes.specs.declared.boxtree.Aabb.{Aabb}
 use Rattle.boxes.specs.Crossing.{crossing_of}
@@ -73,6 +73,10 @@ two_to_minus e = fin false 1 (negsuc (e - 1))
 -- the matrix with this diagonal
 abbrev pub diagonal : Float → Float → Float → List (List Float)
 diagonal a b c = (a ∷ positive_zero ∷ positive_zero ∷ []) ∷ (positive_zero ∷ b ∷ positive_zero ∷ []) ∷ (positive_zero ∷ positive_zero ∷ c ∷ []) ∷ []
+
+-- the parameter k, at the bound that it oversteps
+abbrev pub exit : ℕ → Float → Exit
+exit k bound = record { index = k; bound = bound }
 
 -- "Windows all 0 to 1, no marks", whatever the surface
 abbrev pub unit_patch : Surface → Patch
@@ -156,17 +160,17 @@ pub record Table : Type 0 where
   -- index 3, bound 0."
   pub row7 :
       ((a b : Surface)
-      → leaving_of (unit_patch a) (unit_patch b) (parameters half half half half) (parameters three_halves half three_halves half) ≡ exit.At 0 one)
+      → leaving_of (unit_patch a) (unit_patch b) (parameters half half half half) (parameters three_halves half three_halves half) ≡ Some (exit 0 one))
       × ((a b : Surface)
       → leaving_of (unit_patch a) (unit_patch b) (parameters half half half half) (parameters three_halves half half -three_halves)
-      ≡ exit.At 3 positive_zero)
+      ≡ Some (exit 3 positive_zero))
   -- "Points (0,0,0), (0.1,0,0), (0.2,0,0), (0.3,0,0), confusion 2^-20, angular 1e-12: the box that is the point (0.15, 0.005, 0) is
   -- crossed, (0.15, 0.01, 0) is not."
   pub row8 :
       ((p : ℕ → ℕ → Float) (t : Float)
-      → crossing_of (confusion20 t) (four_points p) 4 (box_at (bits 0x3fc3_3333_3333_3333) (bits 0x3f74_7ae1_47ae_147b) positive_zero) ≡ (Ok true))
+      → crossing_of (confusion20 t) (four_points p) 4 (box_at (bits 0x3fc3_3333_3333_3333) (bits 0x3f74_7ae1_47ae_147b) positive_zero) ≡ Ok true)
       × ((p : ℕ → ℕ → Float) (t : Float)
-      → crossing_of (confusion20 t) (four_points p) 4 (box_at (bits 0x3fc3_3333_3333_3333) (bits 0x3f84_7ae1_47ae_147b) positive_zero) ≡ (Ok false))
+      → crossing_of (confusion20 t) (four_points p) 4 (box_at (bits 0x3fc3_3333_3333_3333) (bits 0x3f84_7ae1_47ae_147b) positive_zero) ≡ Ok false)
   -- "A and B the same unit-frame plane, windows -1 to 1, no marks, default tolerance, cap 2, 35 numbers lent, guess all 0: 10. B's origin
   -- moved to z = 1": 02, A2: "the new number, in round 0"; A3: at column 2 (and the 35 numbers are positive zero afterwards)
   pub row9 :

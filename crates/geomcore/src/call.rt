@@ -1,16 +1,15 @@
 ghost use Rattle.trace_file.specs.Layout.{version1, width1};
 ghost use Rattle.passing.specs.Promises.{PointPromise, TracePromise, CheckPromise, CrossingPromise, WriteV1Promise, ReadPromise};
 
-use boxes::{Aabb, Crossed};
-use geometry::Tolerance;
+use boxes::Aabb;
+use geometry::{Point3D, Tolerance};
 use groups::Traced;
-use patch::{Located, Parameters, Patch};
-use refusal::Verdict;
-use trace_file::Written;
+use patch::{Parameters, Patch};
+use refusal::Refusal;
 
 // The point of a surface at (u, v). Refused: 1 to 4 for an unfit surface, then 6 for a parameter that is not finite. The windows are not
 // applied.
-pub fn point(patch: Patch, u: f64, v: f64) -> Located
+pub fn point(patch: Patch, u: f64, v: f64) -> Result<Point3D, Refusal>
     ensures { PointPromise patch u v result }
 {
     patch::point::point(patch, u, v)
@@ -18,8 +17,8 @@ pub fn point(patch: Patch, u: f64, v: f64) -> Located
 
 // The line where A and B meet, through the meeting that the guess leads to, by at most `cap` steps forward and as many backward.
 //
-// The answer holds the count of points, the start's index and the closing code: 0 open, 1 closed forward, 2 closed backward. Refused, in
-// this order: 1 to 4 for A, the same for B, 5 the tolerance, 6 a guess that is not finite, 7 a cap outside 2 to 2000, 8 fewer than
+// The answer holds the count of points, the start's index and the closing, whose code is 0 open, 1 closed forward, 2 closed backward.
+// Refused, in this order: 1 to 4 for A, the same for B, 5 the tolerance, 6 a guess that is not finite, 7 a cap outside 2 to 2000, 8 fewer than
 // 7 (2 cap + 1) numbers lent, 9 no meeting or in its place 21 where a solve for it gave up, 10 no direction there, 11 fewer than 4 points.
 // 9 and 21 are what `meet` of the guess answers, with its Newton round, from 0.
 //
@@ -35,7 +34,7 @@ pub fn trace(
     guess: Parameters,
     cap: usize,
     buffer: &mut [f64],
-) -> Traced
+) -> Result<Traced, Refusal>
     ensures { TracePromise a b tol guess cap buffer.old buffer.new result }
 {
     walk::trace::trace(a, b, tol, guess, cap, &mut *buffer)
@@ -54,7 +53,7 @@ pub fn check(
     count: usize,
     start: usize,
     closing: usize,
-) -> Verdict
+) -> Result<(), Refusal>
     ensures { CheckPromise a b tol trace.now count start closing result }
 {
     certificate::check::check(a, b, tol, trace, count, start, closing)
@@ -64,7 +63,7 @@ pub fn check(
 // segment counts. Refused, in this order:
 // 5, 8, 12 (the count alone), 18 a coordinate that is not finite or above 2^20 in magnitude, 17 the same of the box, or a low side above
 // its high side. It writes nothing.
-pub fn crossing(tol: Tolerance, points: &[f64], count: usize, b: Aabb) -> Crossed
+pub fn crossing(tol: Tolerance, points: &[f64], count: usize, b: Aabb) -> Result<bool, Refusal>
     ensures { CrossingPromise tol points.now count b result }
 {
     boxes::crossing::crossing(tol, points, count, b)
@@ -82,7 +81,7 @@ pub fn write_v1(
     start: usize,
     closing: usize,
     file: &mut [u8],
-) -> Written
+) -> Result<usize, Refusal>
     ensures { WriteV1Promise trace.now count start closing file.old file.new result }
 {
     trace_file::write::write_v1(trace, count, start, closing, &mut *file)
@@ -94,7 +93,7 @@ pub fn write_v1(
 //
 // A refusal writes nothing, and nothing beyond the trace changes. A file that reads, written again, is that file, byte for byte: only one
 // file stands for a trace.
-pub fn read_v1(file: &[u8], buffer: &mut [f64]) -> Traced
+pub fn read_v1(file: &[u8], buffer: &mut [f64]) -> Result<Traced, Refusal>
     ensures { ReadPromise version1 width1 file.now buffer.old buffer.new result }
 {
     trace_file::read::read_v1(file, &mut *buffer)

@@ -1,3 +1,4 @@
 pub mod Groups
 pub mod Rows
 pub mod Items
+pub mod Closings

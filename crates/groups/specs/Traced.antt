@@ -1,5 +1,5 @@
 -- What is answered of a trace in a lent list, and the list with it. Definitions only.
-use Rattle.std.specs.Prelude.{List, ℕ, eqb, Float, Option, Some, None, Result, Ok, Err}
+use Rattle.std.specs.Prelude.{List, ℕ, eqb, Float, Result, Ok, Err}
 use Rattle.loops.specs.Loop.{pick}
 use Rattle.refusal.specs.declared.Refusal.{Refusal}
 use Rattle.refusal.specs.Refusal.{number_of}
@@ -14,9 +14,9 @@ code_of Open = 0
 code_of Forward = 1
 code_of Backward = 2
 
--- the closing of a code; "closing code above 2" has none
-abbrev pub closing_at : ℕ → Option Closing
-closing_at code = pick (eqb code 0) (Some Open) (pick (eqb code 1) (Some Forward) (pick (eqb code 2) (Some Backward) None))
+-- the closing of a code; "closing code above 2" is refused, and counts as 2 here
+abbrev pub closing_at : ℕ → Closing
+closing_at code = pick (eqb code 0) Open (pick (eqb code 1) Forward Backward)
 
 -- the trace, or why it is refused
 abbrev pub TraceAnswer : Type 0

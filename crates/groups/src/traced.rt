@@ -21,15 +21,14 @@ impl Closing {
         }
     }
 
-    // The closing of a code; a code above 2 has none.
-    pub fn of_code(code: usize) -> Option<Closing>
+    // The closing of a code; a code above 2, which 12 and 20 refuse, counts as 2.
+    pub fn of_code(code: usize) -> Closing
         ensures { result ≡ closing_at code }
     {
         match code {
-            0 => Some(Closing::Open),
-            1 => Some(Closing::Forward),
-            2 => Some(Closing::Backward),
-            _ => None,
+            0 => Closing::Open,
+            1 => Closing::Forward,
+            _ => Closing::Backward,
         }
     }
 }

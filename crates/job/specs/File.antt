@@ -1,8 +1,9 @@
 -- What a job file says, and when it is refused by 19. Definitions only.
-use Rattle.std.specs.Prelude.{Bool, true, ◌&&◌, ◌||◌, List, ℕ, ◌+◌, eqb, ltb, length, Float, Ok, Err}
+use Rattle.std.specs.Prelude.{Bool, true, ◌&&◌, ◌||◌, List, ℕ, ◌+◌, eqb, ltb, length, Float, Result, Ok, Err}
 use Rattle.loops.specs.Loop.{pick}
 use Rattle.number.specs.Operators.{bits}
 use Rattle.wire.specs.Wire.{byte_at, two_at, four_at, eight_at, number_at}
+use Rattle.refusal.specs.declared.Refusal.{Refusal}
 use Rattle.refusal.specs.declared.Refusal.TheVariants.{JobFile}
 use Rattle.geometry.specs.declared.point.Point3D.{Point3D}
 use Rattle.geometry.specs.declared.vector.Vector3D.{Vector3D}
@@ -13,8 +14,6 @@ use Rattle.patch.specs.declared.patch.Window.{Window}
 use Rattle.patch.specs.declared.patch.Patch.{Patch}
 use Rattle.patch.specs.declared.patch.Parameters.{Parameters}
 use Rattle.job.specs.declared.file.Job.{Job}
-use Rattle.job.specs.File.{SurfaceRead}
-use Rattle.job.specs.File.{JobRead}
 use Rattle.job.specs.Layout.{marks_place, both_marks, frame_place, first_size_place, second_size_place, u_window_place, v_window_place, surface_bytes}
 use Rattle.job.specs.Layout.{version_place, surface_a_place, surface_b_place, confusion_place, angular_place, guess_place, cap_place, job_bytes, following}
 
@@ -66,6 +65,14 @@ unused_clear kind first second =
     pick (eqb kind 0) (eqb first 0 && eqb second 0)
     (pick (eqb kind 1) (eqb second 0)
     (pick (eqb kind 3) (eqb second 0) true))
+
+-- a surface read from its bytes, or 19
+abbrev pub SurfaceRead : Type 0
+SurfaceRead = Result Patch Refusal
+
+-- a job read from its file, or 19
+abbrev pub JobRead : Type 0
+JobRead = Result Job Refusal
 
 -- the surface that stands from byte `at` on, or 19
 unfoldable pub surface_at : List ℕ → ℕ → SurfaceRead

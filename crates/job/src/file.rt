@@ -18,20 +18,6 @@ pub struct Job {
     pub cap: usize,
 }
 
-// A surface read from its bytes.
-#[derive(Clone, Copy)]
-pub enum SurfaceRead {
-    Whole(Patch),
-    Refused(Refusal),
-}
-
-// A job read from its file.
-#[derive(Clone, Copy)]
-pub enum JobRead {
-    Whole(Job),
-    Refused(Refusal),
-}
-
 fn point(bytes: &[u8], at: usize) -> Point3D
     requires { at + 24 ≤ length bytes.now }
     ensures { result ≡ origin_at bytes.now at }
@@ -129,7 +115,7 @@ fn unused_clear(kind: u64, first: u64, second: u64) -> bool
 }
 
 // The surface whose 146 bytes stand from `at` on, or 19.
-fn surface_at(bytes: &[u8], at: usize) -> SurfaceRead
+fn surface_at(bytes: &[u8], at: usize) -> Result<Patch, Refusal>
     requires { at + surface_bytes ≤ length bytes.now }
     ensures { result ≡ surface_at bytes.now at }
 {
@@ -138,23 +124,23 @@ fn surface_at(bytes: &[u8], at: usize) -> SurfaceRead
     let first = wire::eight(bytes, at + layout::FIRST_SIZE);
     let second = wire::eight(bytes, at + layout::SECOND_SIZE);
     if 4 < kind {
-        return SurfaceRead::Refused(Refusal::JobFile);
+        return Err(Refusal::JobFile);
     }
     if layout::BOTH_MARKS < marks {
-        return SurfaceRead::Refused(Refusal::JobFile);
+        return Err(Refusal::JobFile);
     }
     if !unused_clear(kind, first, second) {
-        return SurfaceRead::Refused(Refusal::JobFile);
+        return Err(Refusal::JobFile);
     }
-    SurfaceRead::Whole(patch_at(bytes, at, kind, marks))
+    Ok(patch_at(bytes, at, kind, marks))
 }
 
 // A surface read from its 146 bytes, or 19. Bytes behind them are not read.
-pub fn read_surface(bytes: &[u8]) -> SurfaceRead
+pub fn read_surface(bytes: &[u8]) -> Result<Patch, Refusal>
     ensures { result ≡ surface_file bytes.now }
 {
     if bytes.len() < layout::SURFACE_BYTES {
-        return SurfaceRead::Refused(Refusal::JobFile);
+        return Err(Refusal::JobFile);
     }
     surface_at(bytes, 0)
 }
@@ -194,23 +180,23 @@ fn job_at(bytes: &[u8], a: Patch, b: Patch) -> Job
 }
 
 // The job of a file, or 19.
-pub fn read(bytes: &[u8]) -> JobRead
+pub fn read(bytes: &[u8]) -> Result<Job, Refusal>
     ensures { result ≡ job_of bytes.now }
 {
     if bytes.len() != layout::JOB_BYTES {
-        return JobRead::Refused(Refusal::JobFile);
+        return Err(Refusal::JobFile);
     }
     if wire::four(bytes, 0) != layout::FOLLOWING {
-        return JobRead::Refused(Refusal::JobFile);
+        return Err(Refusal::JobFile);
     }
     if wire::one(bytes, layout::VERSION) != 1 {
-        return JobRead::Refused(Refusal::JobFile);
+        return Err(Refusal::JobFile);
     }
-    let SurfaceRead::Whole(a) = surface_at(bytes, layout::SURFACE_A) else {
-        return JobRead::Refused(Refusal::JobFile);
+    let Ok(a) = surface_at(bytes, layout::SURFACE_A) else {
+        return Err(Refusal::JobFile);
     };
-    let SurfaceRead::Whole(b) = surface_at(bytes, layout::SURFACE_B) else {
-        return JobRead::Refused(Refusal::JobFile);
+    let Ok(b) = surface_at(bytes, layout::SURFACE_B) else {
+        return Err(Refusal::JobFile);
     };
-    JobRead::Whole(job_at(bytes, a, b))
+    Ok(job_at(bytes, a, b))
 }

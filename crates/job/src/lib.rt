@@ -4,4 +4,4 @@
 pub mod file;
 mod layout;
 
-pub use file::{Job, JobRead, SurfaceRead};
+pub use file::Job;

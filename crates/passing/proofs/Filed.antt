@@ -23,7 +23,7 @@ use Rattle.refusal.specs.Verdict.{asked, and_then}
 use Rattle.refusal.proofs.Laws.{number_positive}
 use Rattle.groups.specs.Groups.{holds_of}
 use Rattle.groups.specs.Traced.{TraceAnswer}
-use Rattle.groups.specs.Traced.{Outcome, outcome, count_of, start_of, closing_of}
+use Rattle.groups.specs.Traced.{closing_at, traced, Outcome, outcome, count_of, start_of, closing_of}
 use Rattle.groups.specs.Traced as trace
 use Rattle.geometry.specs.declared.tolerance.Tolerance.{Tolerance}
 use Rattle.patch.specs.declared.patch.Patch.{Patch}
@@ -67,7 +67,7 @@ module _ (version w : ℕ) (l : List Float) (count start code : ℕ) (before : L
       }
     where
       back : write.refusal_of r ≡ 0 → (t : List Float) → w * count ≤ length t
-          → read_of version w (take (bytes_of r) after) t ≡ outcome (line_of_three count start code) (written (take (w * count) l) t)
+          → read_of version w (take (bytes_of r) after) t ≡ outcome (traced count start (closing_at code)) (written (take (w * count) l) t)
       back z t h =
           let p = write_passed (ap (λ (o : write.Filed). write.refusal_of o.answer) (sym e) ∙ z) in
           let q = e ∙ p.1 in

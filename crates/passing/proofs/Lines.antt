@@ -17,6 +17,8 @@ use Rattle.patch.specs.declared.patch.Patch.{Patch}
 use Rattle.patch.specs.declared.patch.Parameters.{Parameters}
 use Rattle.meeting.specs.Intersection.{IsIntersection}
 use Rattle.certificate.specs.Passes.{closing_chord}
+use Rattle.groups.specs.declared.traced.Closing.TheVariants as ends
+use Rattle.groups.specs.Traced.{code_of}
 use Rattle.walk.specs.Line.{half_of, Line, forward, backward, line_of}
 use Rattle.passing.proofs.Chains.{All, all_append, all_reversed, Linked, linked_at, linked_join, linked_reversed}
 use Rattle.passing.proofs.Halves.{Near, near_swap, Ends, left_open, came_round_lem, HalfFine, half_fine}
@@ -101,10 +103,10 @@ module _ (a b : Patch) (confusion : Float) (x : Parameters) (gx : IsIntersection
   -- ---- the line of two halves
 
   abbrev made : List Parameters → Bool → List Parameters → Bool → Line
-  made fp fc bp bc = pick fc (record { points = x ∷ reverse fp; start = 0; closing = 1 }) (record { points = bp ++ (x ∷ reverse fp); start = length bp; closing = pick bc 2 0 })
+  made fp fc bp bc = pick fc (record { points = x ∷ reverse fp; start = 0; closing = ends.Forward }) (record { points = bp ++ (x ∷ reverse fp); start = length bp; closing = pick bc ends.Backward ends.Open })
 
   abbrev Made : Line → Type 0
-  Made m = Fine m.points m.start m.closing
+  Made m = Fine m.points m.start (code_of m.closing)
 
   reversed_good : (l : List Parameters) → Good l → Good (reverse l)
   reversed_good l g = all_reversed (IsIntersection a b confusion) l [] g tt
@@ -119,12 +121,12 @@ module _ (a b : Patch) (confusion : Float) (x : Parameters) (gx : IsIntersection
   back_made kept r h k m g q l s = back_line kept r (omega arith) k m g.1 q l s
 
   both_made : (fp bp : List Parameters) (bc : Bool) → length fp ≤ n → Good fp → Chain (fp ++ (x ∷ [])) → length bp ≤ n → Good bp → Ends a x bp bc
-      → Fine (bp ++ (x ∷ reverse fp)) (length bp) (pick bc 2 0)
+      → Fine (bp ++ (x ∷ reverse fp)) (length bp) (code_of (pick bc ends.Backward ends.Open))
   both_made fp bp bc h g l k q (left_open e p) =
-      subst (λ (c : Bool). Fine (bp ++ (x ∷ reverse fp)) (length bp) (pick c 2 0)) (sym e)
+      subst (λ (c : Bool). Fine (bp ++ (x ∷ reverse fp)) (length bp) (code_of (pick c ends.Backward ends.Open))) (sym e)
       (open_line bp (reverse fp) k (let f = length-reverse fp in omega (arith, f, h)) q (reversed_good fp g) p (linked_reversed (Near a) (near_swap a) x fp l))
   both_made fp bp bc h g l k q (came_round_lem e kept d m p) =
-      subst (λ (c : Bool). Fine (bp ++ (x ∷ reverse fp)) (length bp) (pick c 2 0)) (sym e)
+      subst (λ (c : Bool). Fine (bp ++ (x ∷ reverse fp)) (length bp) (code_of (pick c ends.Backward ends.Open))) (sym e)
       (subst (λ (s : List Parameters). Fine (s ++ (x ∷ reverse fp)) (length s) 2) (sym d)
       (back_made kept (reverse fp) (subst (λ (s : List Parameters). length s ≤ n) d k) (let f = length-reverse fp in omega (arith, f, h)) m
       (subst Good d q) (reversed_good fp g) p (linked_reversed (Near a) (near_swap a) x fp l)))
@@ -140,7 +142,7 @@ module _ (a b : Patch) (confusion : Float) (x : Parameters) (gx : IsIntersection
           (closed_made kept (subst (λ (s : List Parameters). length s ≤ n) d f.few) (subst Good d f.good) p))
 
 pub line_fine : (a b : Patch) (tol : Tolerance) → T (tolerance_fit tol) → (x : Parameters) → IsIntersection a b tol.confusion x → (t : Vector3D) (n : ℕ)
-    → LineFine a b tol.confusion x n (line_of a b tol x t n).points (line_of a b tol x t n).start (line_of a b tol x t n).closing
+    → LineFine a b tol.confusion x n (line_of a b tol x t n).points (line_of a b tol x t n).start (code_of (line_of a b tol x t n).closing)
 unfolding line_of
 line_fine a b tol fit x gx t n =
     line_made a b tol.confusion x gx n

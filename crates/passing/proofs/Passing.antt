@@ -29,7 +29,7 @@ use Rattle.certificate.specs.Passes.{Passes}
 use Rattle.walk.specs.Lent.{own_row, rows_of}
 use Rattle.walk.specs.Line.{line_of}
 use Rattle.walk.specs.Line as line
-use Rattle.groups.specs.Traced.{Outcome, outcome, refusal_of, count_of, start_of, closing_of}
+use Rattle.groups.specs.Traced.{code_of, traced, Outcome, outcome, refusal_of, count_of, start_of, closing_of}
 use Rattle.walk.specs.Trace.{call_fitness, room, settled, after_direction, after_seed, walk_of, after_call, trace_of}
 use Rattle.groups.specs.Traced.{TraceAnswer}
 use Rattle.walk.proofs.Calls.{CallFit, call_fit}
@@ -46,7 +46,7 @@ module _ {a b : Patch} {tol : Tolerance} {n : ℕ} {l : List Float} (f : CallFit
   abbrev Passing : Outcome → Type 0
   Passing o = AnswerPasses a b tol o.answer (o.buffer ++ drop (room n) l)
 
-  settled_passing : (x : Parameters) (m : line.Line) → LineFine a b tol.confusion x n m.points m.start m.closing → Passing (settled (own_row a) n m)
+  settled_passing : (x : Parameters) (m : line.Line) → LineFine a b tol.confusion x n m.points m.start (code_of m.closing) → Passing (settled (own_row a) n m)
   unfolding settled
   settled_passing x m v = go (leb least_points (length m.points)) refl
     where
@@ -57,7 +57,7 @@ module _ {a b : Patch} {tol : Tolerance} {n : ℕ} {l : List Float} (f : CallFit
       zeros = replicate (room n - width * length m.points) positive_zero
 
       go : (t : Bool) → leb least_points (length m.points) ≡ t
-          → Passing (pick t (outcome (line_of_three (length m.points) m.start m.closing) (rows ++ zeros)) (outcome (Err refusal.TooShort) (replicate (room n) positive_zero)))
+          → Passing (pick t (outcome (traced (length m.points) m.start m.closing) (rows ++ zeros)) (outcome (Err refusal.TooShort) (replicate (room n) positive_zero)))
       go true e q = rw (append_assoc rows zeros (drop (room n) l)) (line_passes f x v (zeros ++ drop (room n) l) (leb-true least_points (length m.points) e))
       go false e q = absurd (let z : ⊥ = omega arith in z)
 

@@ -20,7 +20,7 @@ use Rattle.certificate.specs.Passes.{parameters_at, Passes}
 use Rattle.certificate.specs.Check.{check_of}
 use Rattle.refusal.specs.Verdict as verdict
 use Rattle.groups.specs.Traced.{TraceAnswer}
-use Rattle.groups.specs.Traced.{outcome, count_of, start_of, closing_of}
+use Rattle.groups.specs.Traced.{closing_at, traced, outcome, count_of, start_of, closing_of}
 use Rattle.groups.specs.Traced as trace
 use Rattle.walk.specs.Trace.{call_fitness, trace_of}
 use Rattle.boxes.specs.declared.boxtree.Aabb.{Aabb}
@@ -113,7 +113,7 @@ pub record WritePromise (version w : ℕ) (l : List Float) (count start closing 
   pub file : after ≡ (write_of version w l count start closing before).file
   -- "Reading what was written, into room enough, returns the trace bit for bit"
   pub reads_back : write.refusal_of r ≡ 0 → (t : List Float) → w * count ≤ length t
-      → read_of version w (take (bytes_of r) after) t ≡ outcome (line_of_three count start closing) (written (take (w * count) l) t)
+      → read_of version w (take (bytes_of r) after) t ≡ outcome (traced count start (closing_at closing)) (written (take (w * count) l) t)
 
 -- the same for version 1, which has the numbers of a trace that the check reads
 pub record WriteV1Promise (l : List Float) (count start closing : ℕ) (before after : List ℕ) (r : Written) : Type 0 where

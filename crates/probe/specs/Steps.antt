@@ -8,7 +8,6 @@ use Rattle.probe.specs.Call.{point_from, vector_from, parameters_from, call_from
 use Rattle.probe.specs.declared.call.Call.{Call}
 use Rattle.refusal.specs.Refusal.{number_of, round_of, column_of}
 use Rattle.marching.specs.declared.leaving.Exit.{Exit}
-use Rattle.marching.specs.declared.leaving.Exit.TheVariants as exit
 use Rattle.meeting.specs.declared.newton.Met.{Met}
 use Rattle.meeting.specs.declared.newton.Met.TheVariants as met
 use Rattle.tangent.specs.Tangent.{tangent_of}
@@ -22,9 +21,9 @@ written_direction (Some d) t = probed 1 (put_three t 0 d.x d.y d.z)
 written_direction None t = probed 0 t
 
 -- the index and the bound, or 4
-abbrev pub written_exit : Exit → List Float → Probed
-written_exit (exit.At k bound) t = probed k (set t 0 bound)
-written_exit exit.Nowhere t = probed 4 t
+abbrev pub written_exit : Option Exit → List Float → Probed
+written_exit (Some e) t = probed e.index (set t 0 e.bound)
+written_exit None t = probed 4 t
 
 -- 1 and the meeting, or 2^8 times the refusal's number, 2^16 times its round and 2^24 times its column
 abbrev pub written_met : Met → List Float → Probed

@@ -10,22 +10,19 @@ ghost use Rattle.probe.specs.Probe.{probed};
 ghost use Rattle.probe.specs.Steps.{probe_tangent, probe_predict, probe_leaving, probe_meet, probe_meet_in_plane, probe_land, probe_step, written_met};
 
 use crate::call::{Call, parameters, point, put, put_parameters, read, vector};
-use marching::Exit;
 use meeting::Met;
-use tangent::Direction;
 
 // 1 and the direction, or 0.
 fn probe_tangent(c: Call, output: &mut [f64]) -> u64
     requires { 4 ≤ length output.old }
     ensures { probed result output.new ≡ probe_tangent c output.old }
 {
-    let direction = tangent::tangent(c.a, c.b, c.x, c.tol);
-    match direction {
-        Direction::Along(d) => {
+    match tangent::tangent(c.a, c.b, c.x, c.tol) {
+        Some(d) => {
             put(output, 0, d.x, d.y, d.z);
             1
         }
-        Direction::Missing => 0,
+        None => 0,
     }
 }
 
@@ -46,13 +43,12 @@ fn probe_leaving(c: Call, input: &[f64], output: &mut [f64]) -> u64
     ensures { probed result output.new ≡ probe_leaving c input.now output.old }
 {
     let y = parameters(input, 48);
-    let exit = marching::leaving::leaving(c.a, c.b, c.x, y);
-    match exit {
-        Exit::At { index, bound } => {
-            output[0] = bound;
-            index as u64
+    match marching::leaving::leaving(c.a, c.b, c.x, y) {
+        Some(exit) => {
+            output[0] = exit.bound;
+            exit.index as u64
         }
-        Exit::Nowhere => 4,
+        None => 4,
     }
 }
 

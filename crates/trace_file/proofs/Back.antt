@@ -17,7 +17,9 @@ use Rattle.refusal.specs.declared.Refusal.TheVariants as refusal
 use Rattle.refusal.specs.Verdict.{Verdict}
 use Rattle.refusal.proofs.Laws.{number_positive}
 use Rattle.refusal.proofs.Order.{first_each, asked_each, Alone}
-use Rattle.groups.specs.Traced.{Outcome, outcome, refusal_of, count_of, start_of, round_of, column_of, closing_of}
+use Rattle.groups.proofs.Closings.{code_small}
+use Rattle.groups.proofs.Closings as closings
+use Rattle.groups.specs.Traced.{closing_at, traced, Outcome, outcome, refusal_of, count_of, start_of, round_of, column_of, closing_of}
 use Rattle.groups.specs.Groups.{most_points}
 use Rattle.trace_file.specs.Layout.{numbers_place, greatest_code, most_width}
 use Rattle.trace_file.specs.File.{file_of, count_in, start_in, code_in, numbers_from, numbers_in, header_of, numbers_bytes, header_fits, all_finite}
@@ -58,7 +60,7 @@ module _ (version w : ℕ) (l : List Float) (d : Binary64 l) (count start code r
       }
 
   -- "Reading what was written, into room enough, returns the trace bit for bit"
-  pub written_reads : (t : List Float) → w * count ≤ length t → read_of version w file t ≡ outcome (line_of_three count start code) (written (take (w * count) l) t)
+  pub written_reads : (t : List Float) → w * count ≤ length t → read_of version w file t ≡ outcome (traced count start (closing_at code)) (written (take (w * count) l) t)
   unfolding read_of
   written_reads t h =
       rw (
@@ -127,7 +129,7 @@ reads version w s t z = read_fit version w s (length t) (go (read_fitness versio
     go (Err r) e = let h = number_positive r in absurd (omega arith)
 
 read_is : (version w : ℕ) (s : List ℕ) (t : List Float) → ReadFit version w s (length t)
-    → read_of version w s t ≡ outcome (line_of_three (count_in s) (start_in s) (code_in s)) (written (numbers_in w s) t)
+    → read_of version w s t ≡ outcome (traced (count_in s) (start_in s) (closing_at (code_in s))) (written (numbers_in w s) t)
 unfolding read_of
 read_is version w s t f = rw (fit_read version w s (length t) f)
 
@@ -151,7 +153,7 @@ read_claim version w s t = go (read_fitness version w s (length t)) refl (read_a
   where
     go : (v : Verdict) → read_fitness version w s (length t) ≡ v → Alone v
         → (let r = (after_reading w s t v).answer in (count_of r ≤ most_points) × (start_of r ≤ most_points) × (closing_of r ≤ greatest_code) × (round_of r ≡ 0) × (column_of r ≡ 0))
-    go (Ok u) e n = let k = claim_fits_lem (read_fit version w s (length t) e).header.claim in (k.1, omega (arith, k.1, k.2), k.3, refl, refl)
+    go (Ok u) e n = let k = claim_fits_lem (read_fit version w s (length t) e).header.claim in (k.1, omega (arith, k.1, k.2), code_small (closing_at (code_in s)), refl, refl)
     go (Err r) e n = (omega arith, omega arith, omega arith, ap (λ (q : Numbers). q.round) n, ap (λ (q : Numbers). q.column) n)
 
 -- what is written has few bytes
@@ -172,6 +174,7 @@ pub read_again : (version w : ℕ) (s : List ℕ) → AllBytes s → (t : List F
 read_again version w s d t z u h =
     let f = reads version w s t z in
     ap (λ (o : Outcome). write_of version w o.buffer (count_of o.answer) (start_of o.answer) (closing_of o.answer) u) (read_is version w s t f)
+    ∙ ap (λ (k : ℕ). write_of version w (written (numbers_in w s) t) (count_in s) (start_in s) k u) (closings.code_back (code_in s) (claim_fits_lem f.header.claim).3)
     ∙ read_writes version w s d (length t) f t refl u h
 
 pub one_file : (version w : ℕ) (s u : List ℕ) → AllBytes s → AllBytes u → (t : List Float) → refusal_of (read_of version w s t).answer ≡ 0
@@ -182,7 +185,9 @@ one_file version w s u ds du t z e =
     let same = sym (read_is version w u t g) ∙ e ∙ read_is version w s t f in
     let c : count_in u ≡ count_in s = ap (λ (o : Outcome). count_of o.answer) same in
     let b : start_in u ≡ start_in s = ap (λ (o : Outcome). start_of o.answer) same in
-    let k : code_in u ≡ code_in s = ap (λ (o : Outcome). closing_of o.answer) same in
+    let k : code_in u ≡ code_in s =
+    sym (closings.code_back (code_in u) (claim_fits_lem g.header.claim).3) ∙ ap (λ (o : Outcome). closing_of o.answer) same ∙ closings.code_back (code_in s) (claim_fits_lem f.header.claim).3
+    in
     let n : written (numbers_in w u) t ≡ written (numbers_in w s) t = ap (λ (o : Outcome). o.buffer) same in
     sym (file_again version w u du (length t) g (written (numbers_in w u) t) (got_front version w u du (length t) g t refl))
     ∙ rw (n, c, b, k) (file_again version w s ds (length t) f (written (numbers_in w s) t) (got_front version w s ds (length t) f t refl))

@@ -1,14 +1,18 @@
 -- The writer: its refusals, its answer and the lent bytes after it. Definitions only.
-use Rattle.std.specs.Prelude.{List, [], ◌∷◌, ℕ, ◌*◌, leb, length, take, Float, Ok, Err}
+use Rattle.std.specs.Prelude.{List, [], ◌∷◌, ℕ, ◌*◌, leb, length, take, Float, Result, Ok, Err}
 use Rattle.loops.specs.Over.{written}
+use Rattle.refusal.specs.declared.Refusal.{Refusal}
 use Rattle.refusal.specs.declared.Refusal.TheVariants as refusal
 use Rattle.refusal.specs.Refusal.{number_of}
 use Rattle.refusal.specs.Verdict.{Verdict}
 use Rattle.refusal.specs.Verdict.{asked, first_refusal}
 use Rattle.groups.specs.Groups.{holds_of}
-use Rattle.trace_file.specs.Write.{Written}
 use Rattle.trace_file.specs.Layout.{file_bytes}
 use Rattle.trace_file.specs.File.{claim_fits, all_finite, file_of}
+
+-- how many bytes the file has, or why it is refused
+abbrev pub Written : Type 0
+Written = Result ℕ Refusal
 
 -- an answer and what the lent bytes are with it
 pub record Filed : Type 0 where

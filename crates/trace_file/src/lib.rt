@@ -7,5 +7,3 @@
 mod layout;
 pub mod read;
 pub mod write;
-
-pub use write::Written;

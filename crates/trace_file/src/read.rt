@@ -6,8 +6,8 @@ ghost use Rattle.trace_file.specs.File.{count_in, start_in, code_in, length_agre
 ghost use Rattle.trace_file.specs.Read.{read_fitness, read_of};
 
 use crate::layout;
-use groups::Traced;
-use refusal::{Refusal, Verdict};
+use groups::{Closing, Traced};
+use refusal::{Refusal, asked};
 
 fn count_in(file: &[u8]) -> usize
     requires { numbers_place ≤ length file.now }
@@ -68,22 +68,14 @@ fn all_finite(file: &[u8], n: usize) -> bool
 }
 
 // The first refusal: all of 20, then 8 for room.
-fn read_fitness(version: u64, width: usize, file: &[u8], room: usize) -> Verdict
+fn read_fitness(version: u64, width: usize, file: &[u8], room: usize) -> Result<(), Refusal>
     requires { width ≤ most_width }
     ensures { result ≡ read_fitness version width file.now room }
 {
-    if !header_fits(version, width, file) {
-        return Verdict::Refused(Refusal::TraceFile);
-    }
+    asked(header_fits(version, width, file), Refusal::TraceFile)?;
     let n = width * count_in(file);
-    if !all_finite(file, n) {
-        return Verdict::Refused(Refusal::TraceFile);
-    }
-    if n <= room {
-        Verdict::Passed
-    } else {
-        Verdict::Refused(Refusal::Lent)
-    }
+    asked(all_finite(file, n), Refusal::TraceFile)?;
+    asked(n <= room, Refusal::Lent)
 }
 
 // The file's n numbers, at the front of the list.
@@ -97,27 +89,22 @@ fn get_numbers(file: &[u8], n: usize, numbers: &mut [f64])
 }
 
 // The trace of a file of a version.
-fn read(version: u64, width: usize, file: &[u8], numbers: &mut [f64]) -> Traced
+fn read(version: u64, width: usize, file: &[u8], numbers: &mut [f64]) -> Result<Traced, Refusal>
     requires { width ≤ most_width }
     ensures { outcome result numbers.new ≡ read_of version width file.now numbers.old }
 {
-    let fitness = read_fitness(version, width, file, numbers.len());
-    match fitness {
-        Verdict::Refused(refusal) => Traced::Refused(refusal),
-        Verdict::Passed => {
-            let count = count_in(file);
-            get_numbers(file, width * count, &mut *numbers);
-            Traced::Line {
-                count,
-                start: start_in(file),
-                closing: code_in(file),
-            }
-        }
-    }
+    read_fitness(version, width, file, numbers.len())?;
+    let count = count_in(file);
+    get_numbers(file, width * count, &mut *numbers);
+    Ok(Traced {
+        count,
+        start: start_in(file),
+        closing: Closing::of_code(code_in(file)),
+    })
 }
 
 // The trace of a file of version 1, seven numbers a point.
-pub fn read_v1(file: &[u8], numbers: &mut [f64]) -> Traced
+pub fn read_v1(file: &[u8], numbers: &mut [f64]) -> Result<Traced, Refusal>
     ensures { outcome result numbers.new ≡ read_of version1 width1 file.now numbers.old }
 {
     read(layout::VERSION_1, layout::WIDTH_1, file, &mut *numbers)

@@ -6,14 +6,7 @@ ghost use Rattle.trace_file.specs.File.{header_of, numbers_bytes, all_finite};
 ghost use Rattle.trace_file.specs.Write.{filed, write_fitness, write_of};
 
 use crate::layout;
-use refusal::{Refusal, Verdict};
-
-// What a writer answers: how many bytes the file has, or why it is refused.
-#[derive(Clone, Copy)]
-pub enum Written {
-    Bytes(usize),
-    Refused(Refusal),
-}
+use refusal::{Refusal, asked};
 
 // Whether each of the first n numbers is finite.
 fn all_finite(numbers: &[f64], n: usize) -> bool
@@ -36,24 +29,14 @@ fn write_fitness(
     start: usize,
     code: usize,
     room: usize,
-) -> Verdict
+) -> Result<(), Refusal>
     requires { width ≤ most_width }
     ensures { result ≡ write_fitness width numbers.now count start code room }
 {
-    if !layout::claim_fits(count, start, code) {
-        return Verdict::Refused(Refusal::TraceFile);
-    }
-    if numbers.len() < width * count {
-        return Verdict::Refused(Refusal::Lent);
-    }
-    if room < layout::file_bytes(width, count) {
-        return Verdict::Refused(Refusal::Lent);
-    }
-    if all_finite(numbers, width * count) {
-        Verdict::Passed
-    } else {
-        Verdict::Refused(Refusal::TraceFile)
-    }
+    asked(layout::claim_fits(count, start, code), Refusal::TraceFile)?;
+    asked(width * count <= numbers.len(), Refusal::Lent)?;
+    asked(layout::file_bytes(width, count) <= room, Refusal::Lent)?;
+    asked(all_finite(numbers, width * count), Refusal::TraceFile)
 }
 
 // Puts all that stands before the numbers at the front.
@@ -87,29 +70,24 @@ fn write(
     start: usize,
     code: usize,
     file: &mut [u8],
-) -> Written
+) -> Result<usize, Refusal>
     requires { (version < 256) × (width ≤ most_width) }
     ensures { filed result file.new ≡ write_of version width numbers.now count start code file.old }
 {
-    let fitness = write_fitness(width, numbers, count, start, code, file.len());
-    match fitness {
-        Verdict::Refused(refusal) => Written::Refused(refusal),
-        Verdict::Passed => {
-            put_header(&mut *file, version, width, count, start, code);
-            put_numbers(&mut *file, numbers, width * count);
-            Written::Bytes(layout::file_bytes(width, count))
-        }
-    }
+    write_fitness(width, numbers, count, start, code, file.len())?;
+    put_header(&mut *file, version, width, count, start, code);
+    put_numbers(&mut *file, numbers, width * count);
+    Ok(layout::file_bytes(width, count))
 }
 
-// A trace as a file of version 1, seven numbers a point.
+// A trace as a file of version 1, seven numbers a point: how many bytes the file has.
 pub fn write_v1(
     numbers: &[f64],
     count: usize,
     start: usize,
     code: usize,
     file: &mut [u8],
-) -> Written
+) -> Result<usize, Refusal>
     ensures { filed result file.new ≡ write_of version1 width1 numbers.now count start code file.old }
 {
     write(

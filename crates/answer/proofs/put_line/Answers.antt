@@ -2,10 +2,10 @@ use Rattle.refusal.proofs.Laws.{number_not_0}
 use Rattle.answer.specs.Answer.{answer_line}
 use Rattle.answer.proofs.put_line.Goals as goal
 
-pub returns-in-Line : goal.returns-in-Line
+pub returns-in-Ok : goal.returns-in-Ok
 unfolding answer_line
-returns-in-Line c = rw c.in-Line.is c.trace_line.ensures
+returns-in-Ok c = rw (c.in-Ok.is, ← c.code.ensures) c.trace_line.ensures
 
-pub returns-in-Refused : goal.returns-in-Refused
+pub returns-in-Err : goal.returns-in-Err
 unfolding answer_line
-returns-in-Refused c = rw (c.in-Refused.is, number_not_0, ← c.number.ensures) c.refused_line.ensures
+returns-in-Err c = rw (c.in-Err.is, number_not_0, ← c.number.ensures) c.refused_line.ensures

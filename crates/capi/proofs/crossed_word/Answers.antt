@@ -1,11 +1,11 @@
 use native.Mathlib.Omega.{arith}
 use Rattle.capi.proofs.crossed_word.Goals as goal
 
-pub returns-in-Yes : goal.returns-in-Yes
-returns-in-Yes c = rw c.in-Yes.is
+pub returns-in-Ok-true : goal.returns-in-Ok-true
+returns-in-Ok-true c = rw (c.in-Ok-true.is, c.in-Ok-true.field-0-test)
 
-pub returns-in-No : goal.returns-in-No
-returns-in-No c = rw c.in-No.is
+pub returns-in-Ok-false : goal.returns-in-Ok-false
+returns-in-Ok-false c = rw (c.in-Ok-false.is, c.in-Ok-false.field-0-test)
 
-pub returns-in-Refused : goal.returns-in-Refused
-returns-in-Refused c = rw (c.in-Refused.is, ← c.number.ensures) (omega arith)
+pub returns-in-Err : goal.returns-in-Err
+returns-in-Err c = rw (c.in-Err.is, ← c.number.ensures) (omega arith)

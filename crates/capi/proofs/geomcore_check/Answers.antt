@@ -7,8 +7,8 @@ checked_word-requires c =
     let g = c.args in
     index_told g.count g.start g.code c.check.ensures
 
-pub returns-in-Refused : goal.returns-in-Refused
-returns-in-Refused c = checked_unread _ _ _ _ _ (sym c.read-read.ensures ∙ c.in-Refused.is) c.number.ensures
+pub returns-in-Err : goal.returns-in-Err
+returns-in-Err c = checked_unread _ _ _ _ _ (sym c.read.ensures ∙ c.in-Err.is) c.number.ensures
 
-pub returns-in-Whole : goal.returns-in-Whole
-returns-in-Whole c = checked_word_lem _ _ _ _ _ (sym c.read-read.ensures ∙ c.in-Whole.is) c.check.ensures c.checked_word.ensures
+pub returns-in-Ok : goal.returns-in-Ok
+returns-in-Ok c = checked_word_lem _ _ _ _ _ (sym c.read.ensures ∙ c.in-Ok.is) c.check.ensures c.checked_word.ensures

@@ -1,10 +1,10 @@
 use Rattle.capi.specs.Point.{point_answer}
 use Rattle.capi.proofs.geomcore_point.Goals as goal
 
-pub returns-in-Refused : goal.returns-in-Refused
+pub returns-in-Err : goal.returns-in-Err
 unfolding point_answer
-returns-in-Refused c = rw (← c.read_surface-read.ensures, c.in-Refused.is, ← c.number.ensures)
+returns-in-Err c = rw (← c.read_surface.ensures, c.in-Err.is, ← c.number.ensures)
 
-pub returns-in-Whole : goal.returns-in-Whole
+pub returns-in-Ok : goal.returns-in-Ok
 unfolding point_answer
-returns-in-Whole c = rw (← c.read_surface-read.ensures, c.in-Whole.is) c.point_on.ensures
+returns-in-Ok c = rw (← c.read_surface.ensures, c.in-Ok.is) c.point_on.ensures

@@ -8,12 +8,12 @@ pub returns-then-out-lt3 : goal.returns-then-out-lt3
 unfolding point_on
 returns-then-out-lt3 c = rw (lt-ltb (length c.args.out.now) 3 c.if-out-lt3.true, c.number.ensures)
 
-pub returns-in-Refused : goal.returns-in-Refused
-returns-in-Refused c =
+pub returns-in-Err : goal.returns-in-Err
+returns-in-Err c =
     let g = c.args in
-    on_refused g.patch g.u g.v g.out.now c.if-out-lt3.false c.point-located.ensures.answer c.in-Refused.is c.number-in-Refused.ensures
+    on_refused g.patch g.u g.v g.out.now c.if-out-lt3.false c.point.ensures.answer c.in-Err.is c.number-in-Err.ensures
 
-pub returns-in-At : goal.returns-in-At
-returns-in-At c =
+pub returns-in-Ok : goal.returns-in-Ok
+returns-in-Ok c =
     let g = c.args in
-    on_located g.patch g.u g.v g.out.now c.if-out-lt3.false c.point-located.ensures.answer c.in-At.is c.put.ensures
+    on_located g.patch g.u g.v g.out.now c.if-out-lt3.false c.point.ensures.answer c.in-Ok.is c.put.ensures

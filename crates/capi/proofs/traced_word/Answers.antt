@@ -6,14 +6,14 @@ use Rattle.capi.proofs.traced_word.Goals as goal
 use Rattle.capi.proofs.traced_word.Goals.{After-numbers-n}
 
 number_byte : (c : After-numbers-n) → c.numbers-n.result.number < 256
-number_byte c = rw c.numbers-n.ensures (number_fits c.in-Refused.refusal)
+number_byte c = rw c.numbers-n.ensures (number_fits c.in-Err.refusal)
 
 added_small : (c : After-numbers-n) → (c.numbers-n.result.round < 256) × (c.numbers-n.result.column < 65536)
 added_small c =
-    rw c.numbers-n.ensures (added_told c.in-Refused.is c.requires)
+    rw c.numbers-n.ensures (added_told c.in-Err.is c.requires)
 
 pub line_word-requires : goal.line_word-requires
-line_word-requires c = line_fits c.in-Line.is c.requires
+line_word-requires c = rw c.code.ensures (line_fits c.in-Ok.is c.requires)
 
 pub overflow_mul-result : goal.overflow_mul-result
 overflow_mul-result c = let h = added_small (goal.at.overflow_mul-result c).After-numbers-n in omega (arith, h.0)
@@ -21,16 +21,16 @@ overflow_mul-result c = let h = added_small (goal.at.overflow_mul-result c).Afte
 pub overflow_add-result : goal.overflow_add-result
 overflow_add-result c = let h = added_small (goal.at.overflow_add-result c).After-numbers-n in omega (arith, number_byte (goal.at.overflow_add-result c).After-numbers-n, h.0)
 
-pub overflow_mul-result-in-Refused : goal.overflow_mul-result-in-Refused
-overflow_mul-result-in-Refused c = let h = added_small (goal.at.overflow_mul-result-in-Refused c).After-numbers-n in omega (arith, h.1)
+pub overflow_mul-result-in-Err : goal.overflow_mul-result-in-Err
+overflow_mul-result-in-Err c = let h = added_small (goal.at.overflow_mul-result-in-Err c).After-numbers-n in omega (arith, h.1)
 
-pub overflow_add-result-in-Refused : goal.overflow_add-result-in-Refused
-overflow_add-result-in-Refused c = let h = added_small (goal.at.overflow_add-result-in-Refused c).After-numbers-n in omega (arith, number_byte (goal.at.overflow_add-result-in-Refused c).After-numbers-n, h.0, h.1)
+pub overflow_add-result-in-Err : goal.overflow_add-result-in-Err
+overflow_add-result-in-Err c = let h = added_small (goal.at.overflow_add-result-in-Err c).After-numbers-n in omega (arith, number_byte (goal.at.overflow_add-result-in-Err c).After-numbers-n, h.0, h.1)
 
-pub returns-in-Line : goal.returns-in-Line
+pub returns-in-Ok : goal.returns-in-Ok
 unfolding traced_word
-returns-in-Line c = rw c.in-Line.is (omega (arith, c.line_word.ensures))
+returns-in-Ok c = rw (c.in-Ok.is, ← c.code.ensures) (omega (arith, c.line_word.ensures))
 
-pub returns-in-Refused : goal.returns-in-Refused
+pub returns-in-Err : goal.returns-in-Err
 unfolding traced_word
-returns-in-Refused c = rw (c.in-Refused.is, c.numbers-n.ensures)
+returns-in-Err c = rw (c.in-Err.is, c.numbers-n.ensures)

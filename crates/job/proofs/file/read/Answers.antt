@@ -25,10 +25,10 @@ pub returns-in_default-surface_at : goal.returns-in_default-surface_at
 unfolding job_of
 returns-in_default-surface_at c =
     rw (eq-eqb _ job_bytes c.if-bytes-ne-JOB_BYTES.false, ← c.four.ensures.0, eq-eqb _ following c.if-four-ne-FOLLOWING.false)
-    (rw (← c.one.ensures.0, eq-eqb c.one.result 1 c.if-one-ne1.false, ← c.surface_at.ensures, c.in-Whole.is, ← c.surface_at-2.ensures, c.in_default-surface_at.is))
+    (rw (← c.one.ensures.0, eq-eqb c.one.result 1 c.if-one-ne1.false, ← c.surface_at.ensures, c.in-Ok.is, ← c.surface_at-2.ensures, c.in_default-surface_at.is))
 
 pub returns : goal.returns
 unfolding job_of
 returns c =
     rw (eq-eqb _ job_bytes c.if-bytes-ne-JOB_BYTES.false, ← c.four.ensures.0, eq-eqb _ following c.if-four-ne-FOLLOWING.false)
-    (rw (← c.one.ensures.0, eq-eqb c.one.result 1 c.if-one-ne1.false, ← c.surface_at.ensures, c.in-Whole.is, ← c.surface_at-2.ensures, c.in-Whole-surface_at.is, ← c.job_at.ensures))
+    (rw (← c.one.ensures.0, eq-eqb c.one.result 1 c.if-one-ne1.false, ← c.surface_at.ensures, c.in-Ok.is, ← c.surface_at-2.ensures, c.in-Ok-surface_at.is, ← c.job_at.ensures))

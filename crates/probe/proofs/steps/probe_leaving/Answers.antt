@@ -1,10 +1,10 @@
 use Rattle.probe.specs.Steps.{probe_leaving}
 use Rattle.probe.proofs.steps.probe_leaving.Goals as goal
 
-pub returns-in-At : goal.returns-in-At
+pub returns-in-Some : goal.returns-in-Some
 unfolding probe_leaving
-returns-in-At c = rw (← c.parameters-y.ensures, ← c.leaving-exit.ensures, c.in-At.is)
+returns-in-Some c = rw (← c.parameters-y.ensures, ← c.leaving.ensures, c.in-Some.is)
 
-pub returns-in-Nowhere : goal.returns-in-Nowhere
+pub returns-in-None : goal.returns-in-None
 unfolding probe_leaving
-returns-in-Nowhere c = rw (← c.parameters-y.ensures, ← c.leaving-exit.ensures, c.in-Nowhere.is)
+returns-in-None c = rw (← c.parameters-y.ensures, ← c.leaving.ensures, c.in-None.is)

@@ -1,10 +1,10 @@
 use Rattle.probe.specs.Steps.{probe_tangent}
 use Rattle.probe.proofs.steps.probe_tangent.Goals as goal
 
-pub returns-in-Along : goal.returns-in-Along
+pub returns-in-Some : goal.returns-in-Some
 unfolding probe_tangent
-returns-in-Along c = rw (← c.tangent-direction.ensures, c.in-Along.is, ← c.put.ensures)
+returns-in-Some c = rw (← c.tangent.ensures, c.in-Some.is, ← c.put.ensures)
 
-pub returns-in-Missing : goal.returns-in-Missing
+pub returns-in-None : goal.returns-in-None
 unfolding probe_tangent
-returns-in-Missing c = rw (← c.tangent-direction.ensures, c.in-Missing.is)
+returns-in-None c = rw (← c.tangent.ensures, c.in-None.is)

@@ -1,25 +1,20 @@
-use mathlib.Core.Path.{sym, subst, ◌∙◌}
-use Prim.Native.Nat.{ℕ, ◌+◌, ◌*◌, ◌≤◌}
-use native.Mathlib.Omega.{arith}
-use lib.ListN.{length}
-use borrow.Author.Tests.{not-true, not-false, le-leb, lt-leb}
+use Rattle.std.proofs.Common.{◌≡◌, ◌∙◌, sym, subst, ap, ℕ, ◌+◌, ◌*◌, ◌≤◌, length, rules, arith}
 use Rattle.refusal.specs.declared.Refusal.TheVariants as refusal
-use Rattle.refusal.proofs.Order.{held_then, failed_then}
+use Rattle.refusal.proofs.Order.{passed_then, refused_then, last_then, asked_as, asked_held}
 use Rattle.trace_file.specs.Layout.{numbers_place}
+use Rattle.trace_file.specs.File.{header_fits}
 use Rattle.trace_file.specs.Read.{read_fitness}
 use Rattle.trace_file.proofs.Fitness.{HeaderFit, header_fits_lem}
 use Rattle.trace_file.proofs.Numbers.{product_small}
 use Rattle.trace_file.proofs.read.read_fitness.Goals as goal
-use Rattle.trace_file.proofs.read.read_fitness.Goals.{Else-not-header_fits}
+use Rattle.trace_file.proofs.read.read_fitness.Goals.{In_ok-asked}
 
 -- where the header is not refused
-module _ (c : Else-not-header_fits) where
+module _ (c : In_ok-asked) where
   header : HeaderFit c.args.version c.args.width c.args.file.now
-  header = header_fits_lem _ _ _ (sym c.header_fits.ensures ∙ not-false c.header_fits.result c.if-not-header_fits.false-raw)
-
-pub returns-then-not-header_fits : goal.returns-then-not-header_fits
-unfolding read_fitness
-returns-then-not-header_fits c = rw (← c.header_fits.ensures, not-true c.header_fits.result c.if-not-header_fits.true-raw)
+  header =
+      header_fits_lem _ _ _
+      (asked_held (header_fits c.args.version c.args.width c.args.file.now) refusal.TraceFile (sym (asked_as refusal.TraceFile c.asked.ensures c.header_fits.ensures) ∙ c.in_ok-asked.was))
 
 pub count_in-requires : goal.count_in-requires
 count_in-requires c = (header c).there
@@ -32,25 +27,21 @@ overflow_mul-n c =
 pub all_finite-requires : goal.all_finite-requires
 all_finite-requires c =
     let g = c.args in
-    let b = (header (goal.at.all_finite-requires c).Else-not-header_fits).bytes in
+    let b = (header (goal.at.all_finite-requires c).In_ok-asked).bytes in
     subst (λ (k : ℕ). numbers_place + 8 * (g.width * k) ≤ length g.file.now) (sym c.count_in.ensures.0) (omega (arith, b))
 
-pub returns-then-not-all_finite : goal.returns-then-not-all_finite
+pub returns-in_err-asked : goal.returns-in_err-asked
 unfolding read_fitness
-returns-then-not-all_finite c =
-    rw (← c.header_fits.ensures, not-false c.header_fits.result c.if-not-header_fits.false-raw, ← c.count_in.ensures.0)
-    (failed_then refusal.TraceFile _ c.all_finite.ensures (not-true c.all_finite.result c.if-not-all_finite.true-raw))
+returns-in_err-asked c =
+    let e : c.from_residual.result ≡ c.asked.result = search rules in
+    e ∙ refused_then _ (asked_as refusal.TraceFile c.asked.ensures c.header_fits.ensures) c.in_err-asked.was
 
-pub returns-then-n-room : goal.returns-then-n-room
+pub returns-in_err-asked-2 : goal.returns-in_err-asked-2
 unfolding read_fitness
-returns-then-n-room c =
-    let fine = not-false c.all_finite.result c.if-not-all_finite.false-raw in
-    rw (← c.header_fits.ensures, not-false c.header_fits.result c.if-not-header_fits.false-raw, ← c.count_in.ensures.0)
-    (held_then refusal.TraceFile c.all_finite.ensures fine (rw (le-leb _ _ c.if-n-room.true)))
+returns-in_err-asked-2 c =
+    let e : c.from_residual-in_err-asked-2.result ≡ c.asked-2.result = search rules in
+    passed_then (asked_as refusal.TraceFile c.asked.ensures c.header_fits.ensures) c.in_ok-asked.was (e ∙ refused_then _ (asked_as refusal.TraceFile c.asked-2.ensures (rw c.count_in.ensures.0 at c.all_finite.ensures)) c.in_err-asked-2.was)
 
-pub returns-else-n-room : goal.returns-else-n-room
+pub returns : goal.returns
 unfolding read_fitness
-returns-else-n-room c =
-    let fine = not-false c.all_finite.result c.if-not-all_finite.false-raw in
-    rw (← c.header_fits.ensures, not-false c.header_fits.result c.if-not-header_fits.false-raw, ← c.count_in.ensures.0)
-    (held_then refusal.TraceFile c.all_finite.ensures fine (rw (lt-leb _ _ c.if-n-room.false)))
+returns c = passed_then (asked_as refusal.TraceFile c.asked.ensures c.header_fits.ensures) c.in_ok-asked.was (passed_then (asked_as refusal.TraceFile c.asked-2.ensures (rw c.count_in.ensures.0 at c.all_finite.ensures)) c.in_ok-asked-2.was (last_then (rw c.count_in.ensures.0 at c.asked-3.ensures)))
