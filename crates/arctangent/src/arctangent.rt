@@ -101,6 +101,7 @@ pub(crate) fn atan_folded(t: f64, ix: u64) -> f64
 }
 
 // The C's switch on m, which is the sign of y with twice the sign of x.
+// Kept (1): m and the two signs are numbers, as in the C, which takes them from the bits and puts m together by `|`.
 fn by_signs(m: u64, a: f64, b: f64, c: f64, d: f64) -> f64
     ensures { result ≡ by_signs m a b c d }
 {
