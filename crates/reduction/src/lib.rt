@@ -4,7 +4,8 @@
 
 ghost use Rattle.std.specs.Prelude.{◌≡◌, ◌<◌, get_or};
 ghost use Rattle.std.specs.Float.Ieee.{to_unsigned};
-ghost use Rattle.reduction.specs.Reduction.{npio2hw, rem_pio2, taken_of, medium_of, negated_of, first_difference, next_difference, careful_of, refined_of};
+ghost use Rattle.reduction.specs.Reduction.{npio2hw, rem_pio2, taken_of, medium_of, negated_of};
+ghost use Rattle.reduction.specs.Reduction.{first_difference, next_difference, careful_of, refined_of};
 ghost use Rattle.reduction.specs.Near.{near_of};
 
 // The quadrant, n modulo 4, and the angle that is left: y0 with its tail y1.

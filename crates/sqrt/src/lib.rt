@@ -110,9 +110,9 @@ impl Significand {
         }
     }
 
-    // A candidate for the root of m * 2 ^ odd * 2 ^ 52, where odd is 1 for an odd g, by the root of v = m * 2 ^ odd / 2 ^ 52: a cubic's value is
-    // near it, and is cut to 26 digits, s, whose square is exact. What is missing is (v - s * s) / (s + root). The sums with `TO_25` and `TO_52`
-    // put the wanted digits at the end of the bits. None for a NaN, which none of them is; that is not proved.
+    // A candidate for the root of m * 2 ^ odd * 2 ^ 52, where odd is 1 for an odd g, by the root of v = m * 2 ^ odd / 2 ^ 52: a cubic's
+    // value is near it, and is cut to 26 digits, s, whose square is exact. What is missing is (v - s * s) / (s + root). The sums with
+    // `TO_25` and `TO_52` put the wanted digits at the end of the bits. None for a NaN, which none of them is; that is not proved.
     fn candidate(self) -> Option<Candidate> {
         let odd = self.g % 2;
         let bits = self.m + 0x3fe0_0000_0000_0000;
@@ -155,9 +155,9 @@ impl Significand {
 }
 
 impl Candidate {
-    // Whether it is nearest to the root of a * 2 ^ 52. The difference of the squares is taken in units of 2 ^ 27, so that a candidate within one
-    // unit of the lower limit may be refused, and none is passed that is not nearest. The upper limit is exact: roots of numbers beside a power
-    // of 4, as the lengths of unit vectors are, lie just below it.
+    // Whether it is nearest to the root of a * 2 ^ 52. The difference of the squares is taken in units of 2 ^ 27, so that a candidate
+    // within one unit of the lower limit may be refused, and none is passed that is not nearest. The upper limit is exact: roots of
+    // numbers beside a power of 4, as the lengths of unit vectors are, lie just below it.
     fn is_nearest(self, a: u64) -> bool
         requires { a < 2 ^ 54 }
         ensures { result ≡ true → Nearest (a * 2 ^ 52) (self.high * 2 ^ 27 + self.low) }
