@@ -1,5 +1,5 @@
 #!/usr/bin/env python3
-"""cubics_sqrt.py: the rows of `cubic_for` in crates/sqrt/src/lib.rt, and the greatest relative error found at 101 points of each stretch.
+"""cubics_sqrt.py: the rows of `CUBICS` in crates/sqrt/src/lib.rt, and the greatest relative error found at 101 points of each stretch.
 
 Row i is the cubic c0 + c1 * f - c2 * f ^ 2 + c3 * f ^ 3 that equals the square root of f at the four zeros of Chebyshev's polynomial between
 1 + i / 32 and 1 + (i + 1) / 32, the coefficients rounded to 11 places. The last row is lowered by 2e-10: a root just below a power of 2 lies just
@@ -35,7 +35,7 @@ def main():
         if i == 31:
             row[0] -= Fraction(2, 10**10)
         row = ["%.11f" % c for c in row]
-        print("        %s => Cubic(%s, %s, %s, %s)," % (i if i < 31 else "_", row[0], row[1], row[2].lstrip("-"), row[3]))
+        print("    Cubic(%s, %s, %s, %s)," % (row[0], row[1], row[2].lstrip("-"), row[3]))
         for k in range(101):
             f = low + (high - low) * k / 100
             worst = max(worst, abs(sum(float(c) * f**n for n, c in enumerate(row)) / math.sqrt(f) - 1))

@@ -2,6 +2,7 @@
 ghost use Rattle.std.specs.Prelude.{◌≡◌, ◌^◌, ◌<◌};
 ghost use Rattle.arctangent.specs.Arctangent.{series_of, far_of, from_known, folded_of, by_signs, on_axis, upright, far_along, quotient_of, around_of, angle_of};
 
+// Kept (6): the entries of the C's atanhi[], atanlo[] and aT[] are constants of their names: each index is a number, and no loop goes over them.
 const ATANHI_0: f64 = 4.63647609000806093515e-01;
 
 const ATANHI_1: f64 = 7.85398163397448278999e-01;
@@ -101,6 +102,7 @@ pub(crate) fn atan_folded(t: f64, ix: u64) -> f64
 }
 
 // The C's switch on m, which is the sign of y with twice the sign of x.
+// Kept (1): m and the two signs are numbers, as in the C, which takes them from the bits and puts m together by `|`.
 fn by_signs(m: u64, a: f64, b: f64, c: f64, d: f64) -> f64
     ensures { result ≡ by_signs m a b c d }
 {

@@ -10,14 +10,13 @@ use lib.Bits.{bit_and, and_mask}
 use lib.Dec.{T, leb, eqb, lit<}
 use lib.Ieee.{Float, nan, inf, binary64, neg, sub, to_bits, of_fields, fits}
 use lib.Ieee.Fits.{nan-fits, inf-fits}
+use Rattle.std.proofs.Common.{Option, Some, None}
 use Rattle.loops.specs.Loop.{pick}
 use Rattle.loops.proofs.Choice.{pick_is}
 use Rattle.number.specs.Operators.{◌⊖◌}
 use Rattle.number.specs.Words.{high_word}
 use Rattle.number.proofs.Fields.{at, fields}
 use Rattle.reduction.specs.declared.Reduction.{Reduction}
-use Rattle.reduction.specs.declared.Reduced.{Reduced}
-use Rattle.reduction.specs.declared.Reduced.TheVariants.{To, Beyond}
 use Rattle.reduction.specs.Reduction.{reach, rem_pio2}
 use Rattle.reduction.proofs.Laws.{rem_beyond}
 use Rattle.fdlibm.specs.Kernel.{kernel_sin, kernel_cos}
@@ -93,6 +92,7 @@ module _ (P : Float → Type 0) (other : (x : Float) → P x → P (neg x)) (a :
   unfolding cos_at
   cos_at_is = pick_is P (eqb a.quadrant 0) c (pick_is P (eqb a.quadrant 1) (other _ s) (pick_is P (eqb a.quadrant 2) (other _ c) s))
 
-pub in_reach_is : (P : Float → Type 0) (Q : Reduced → Type 0) (g : Reduction → Float) → ((a : Reduction) → Q (To a) → P (g a)) → (Q Beyond → P nan) → (r : Reduced) → Q r → P (in_reach g r)
-in_reach_is P Q g k b (To a) q = k a q
-in_reach_is P Q g k b Beyond q = b q
+pub in_reach_is : (P : Float → Type 0) (Q : Option Reduction → Type 0) (g : Reduction → Float)
+    → ((a : Reduction) → Q (Some a) → P (g a)) → (Q None → P nan) → (r : Option Reduction) → Q r → P (in_reach g r)
+in_reach_is P Q g k b (Some a) q = k a q
+in_reach_is P Q g k b None q = b q

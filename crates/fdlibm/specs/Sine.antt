@@ -1,12 +1,10 @@
 -- Sine and cosine: s_sin.c and s_cos.c of fdlibm 5.3. Definitions only.
-use Rattle.std.specs.Prelude.{true, false, leb, eqb, Float}
+use Rattle.std.specs.Prelude.{true, false, leb, eqb, Float, Option, Some, None}
 use Rattle.std.specs.Float.{nan}
 use Rattle.std.specs.Float.Ieee.{neg}
 use Rattle.loops.specs.Loop.{pick}
 use Rattle.number.specs.Operators.{◌⊖◌, bits}
 use Rattle.reduction.specs.declared.Reduction.{Reduction}
-use Rattle.reduction.specs.declared.Reduced.{Reduced}
-use Rattle.reduction.specs.declared.Reduced.TheVariants.{To, Beyond}
 use Rattle.number.specs.Words.{high_word}
 use Rattle.fdlibm.specs.Kernel.{kernel_sin, kernel_cos}
 use Rattle.reduction.specs.Reduction.{rem_pio2}
@@ -28,9 +26,9 @@ cos_at a =
     pick (eqb n 0) c (pick (eqb n 1) (neg s) (pick (eqb n 2) (neg c) s))
 
 -- "beyond that sine and cosine are NaN"
-abbrev pub in_reach : (Reduction → Float) → Reduced → Float
-in_reach f (To a) = f a
-in_reach f Beyond = nan
+abbrev pub in_reach : (Reduction → Float) → Option Reduction → Float
+in_reach f (Some a) = f a
+in_reach f None = nan
 
 -- sin(x)
 unfoldable pub sin_of : Float → Float

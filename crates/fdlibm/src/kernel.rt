@@ -30,6 +30,7 @@ const C5: f64 = 2.08757232129817482790e-09;
 const C6: f64 = -1.13596475577881948265e-11;
 
 // The sine of x + y, where tail says whether there is a y at all.
+// Kept (1): the flag is the C's iy. The cosine reads y with a tail and without one, so of an Option it would have to make the 0 again.
 fn kernel_sin(x: f64, y: f64, tail: bool) -> f64
     requires { 0x3e400000 ≤ high_word x }
     ensures { result ≡ kernel_sin x y tail }

@@ -6,7 +6,7 @@
 ghost use Rattle.std.specs.Prelude.{◌≡◌};
 ghost use Rattle.fdlibm.specs.Sine.{sin_of, cos_of, sin_at, cos_at};
 
-use reduction::{Reduced, Reduction};
+use reduction::Reduction;
 
 mod kernel; // k_sin.c, k_cos.c
 
@@ -22,8 +22,7 @@ fn both_at(a: Reduction) -> SinCos
     ensures { (result.sin ≡ sin_at a) × (result.cos ≡ cos_at a) }
 {
     let k = kernel::kernels(a.y0, a.y1, true);
-    let quadrant = a.quadrant;
-    match quadrant {
+    match a.quadrant {
         0 => k,
         1 => SinCos {
             sin: k.cos,
@@ -54,7 +53,7 @@ fn both(x: f64) -> SinCos
             cos: x - x,
         };
     }
-    let Reduced::To(a) = reduction::rem_pio2(x) else {
+    let Some(a) = reduction::rem_pio2(x) else {
         return SinCos {
             sin: 0.0 / 0.0,
             cos: 0.0 / 0.0,
@@ -63,7 +62,8 @@ fn both(x: f64) -> SinCos
     both_at(a)
 }
 
-// The sine, with the cosine put into `cos`. A struct of the two would be read as one piece just after it was stored as two, which waits.
+// The sine, with the cosine put into `cos`.
+// Kept (5): a struct of the two would be read as one piece just after it was stored as two, which waits (docs/SPEED.md).
 pub fn sin_cos(x: f64, cos: &mut f64) -> f64
     ensures { (result ≡ sin_of x) × (cos.new ≡ cos_of x) }
 {

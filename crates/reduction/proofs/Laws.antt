@@ -2,27 +2,29 @@
 use Prim.Native.Nat.{ℕ, ◌+◌, ◌/◌, ◌^◌, ◌≤◌, ◌<◌}
 use native.Mathlib.Nat.{le_trans}
 use native.Mathlib.Omega.{arith}
-use mathlib.Core.Path.{◌≡◌}
+use mathlib.Core.Path.{◌≡◌, subst}
 use mathlib.Core.Bool.{not, ◌&&◌}
 use borrow.Author.Tests.{le-ltb, le-leb, lt-leb}
 use lib.Dec.{leb, ltb, eqb, lit≤}
-use lib.Ieee.{Float, binary64, of_bits, of_int, to_unsigned}
+use lib.Bits.{bit_and}
+use lib.Ieee.{Float, binary64, neg, of_bits, of_int, to_unsigned}
 use lib.IntN.{pos}
 use lib.ListN.{get_or}
 use Rattle.loops.proofs.Choice.{pick_is}
 use Rattle.number.specs.Operators.{◌⊕◌, ◌⊖◌, ◌⊗◌, bits}
-use Rattle.number.specs.Helpers.{half, abs_of}
+use Rattle.std.proofs.Common.{Option, Some, None}
+use Rattle.number.specs.Helpers.{one, half, abs_of}
 use Rattle.number.specs.Words.{high_word, sign_bit, exponent_field}
-use Rattle.number.proofs.Bounded.{Under, lift, plus, minus, times, neg_under, abs_under, counted, constant}
+use Rattle.number.proofs.Bounded.{Under, lift, minus, times, neg_under, abs_under, counted, constant}
 use Rattle.reduction.specs.declared.Reduction.{Reduction}
 use Rattle.reduction.specs.declared.Difference.{Difference}
-use Rattle.reduction.specs.declared.Reduced.{Reduced}
-use Rattle.reduction.specs.declared.Reduced.TheVariants.{To, Beyond}
-use Rattle.reduction.specs.Reduction.{npio2hw, invpio2, pio2_2, pio2_2t, pio2_3, pio2_3t, above_of, below_of, first_difference, next_difference, careful_of}
-use Rattle.reduction.specs.Reduction.{refined_of, medium_of, negated_of, reach, rem_pio2}
+use Rattle.reduction.specs.Reduction.{npio2hw, invpio2, pio2_2, pio2_2t, pio2_3, pio2_3t, taken_of, above_of, below_of, first_difference}
+use Rattle.reduction.specs.Reduction.{next_difference, careful_of, refined_of, medium_of, negated_of, reach, rem_pio2}
+use Rattle.reduction.specs.Near.{near_of}
 use Rattle.reduction.proofs.Truncation.{cut_most}
+use Rattle.reduction.proofs.Branches.{near_above, near_below}
 
-pub rem_beyond : (x : Float) → reach < high_word x → high_word x < 0x7ff00000 → rem_pio2 x ≡ Beyond
+pub rem_beyond : (x : Float) → reach < high_word x → high_word x < 0x7ff00000 → rem_pio2 x ≡ None
 unfolding rem_pio2
 rem_beyond x h l =
     let w = high_word x in
@@ -34,9 +36,15 @@ Parted k d = Under k d.r × Under k d.w
 abbrev pub Left : Reduction → Type 0
 Left a = Under 44 a.y0 × Under 44 a.y1
 
-abbrev pub LeftOf : Reduced → Type 0
-LeftOf (To a) = Left a
-LeftOf Beyond = ⊥
+abbrev pub LeftOf : Option Reduction → Type 0
+LeftOf (Some a) = Left a
+LeftOf None = ⊥
+
+taken_under : (d : Difference) (n : ℕ) → Parted 41 d → Left (taken_of d n)
+unfolding taken_of
+taken_under d n v =
+    let y = minus 41 tt tt tt v.0 v.1 in
+    (lift 44 tt y, minus 43 tt tt tt (minus 42 tt tt tt v.0 y) v.1)
 
 module _ (n : Float) (u : Under 31 n) where
   first_under : (t : Float) → Under 21 t → Parted 33 (first_difference t n)
@@ -72,46 +80,41 @@ module _ (n : Float) (u : Under 31 n) where
       let c = careful_under d ix v in
       pick_is (Parted 41) (ltb whole 32 && not (eqb ix (get_or npio2hw whole 0))) (lift 41 tt v.0, lift 41 tt v.1) c
 
+  near_under : (x : Float) (q ix : ℕ) → Under 21 x → Left (near_of x n q ix)
+  unfolding near_of of_bits
+  near_under x q ix v =
+      let d = first_difference x n in
+      let f = first_under x v in
+      let second : Difference = record { r = d.r ⊖ n ⊗ pio2_2; w = n ⊗ pio2_2t } in
+      let r = minus 33 tt tt tt f.0 (times tt u (constant 0x3dd0b4611a600000 0 tt tt)) in
+      let w = times tt u (constant 0x3ba3198a2e037073 0 tt tt) in
+      pick_is Left (eqb ix 0x3ff921fb) (taken_under second q (lift 41 tt r, lift 41 tt w)) (taken_under d q (lift 41 tt f.0, lift 41 tt f.1))
+
 medium_under : (t : Float) (ix : ℕ) → Under 21 t → Left (medium_of t ix)
 unfolding medium_of
 medium_under t ix v =
     let whole = to_unsigned 31 (t ⊗ invpio2 ⊕ half) in
     let n = of_int binary64 (pos whole) in
     let u : Under 31 n = counted whole 31 (lit≤ tt) (le_trans (cut_most (t ⊗ invpio2 ⊕ half)) (lit≤ tt)) in
-    let d = refined_under n u (first_difference t n) whole ix (first_under n u t v) in
-    let y = minus 41 tt tt tt d.0 d.1 in
-    (lift 44 tt y, minus 43 tt tt tt (minus 42 tt tt tt d.0 y) d.1)
+    taken_under (refined_of (first_difference t n) whole n ix) (bit_and whole 3) (refined_under n u (first_difference t n) whole ix (first_under n u t v))
 
 back_under : (a : Reduction) → Left a → Left (negated_of a)
 unfolding negated_of
 back_under a v = (neg_under v.0, neg_under v.1)
 
-module _ (x : Float) (ix : ℕ) (u : Under 21 x) where
-  above_under : Left (above_of x ix)
-  unfolding above_of of_bits
-  above_under =
-      let p = constant 0x3dd0b4611a626331 0 tt tt in
-      let q = constant 0x3ba3198a2e037073 0 tt tt in
-      let z = minus 21 tt tt tt u (constant 0x3ff921fb54400000 1 tt tt) in
-      let v = minus 22 tt tt tt z (constant 0x3dd0b4611a600000 0 tt tt) in
-      let y = minus 23 tt tt tt v q in
-      let y' = minus 22 tt tt tt z p in
-      pick_is Left (eqb ix 0x3ff921fb) (lift 44 tt y, minus 43 tt tt tt (minus 42 tt tt tt v y) q) (lift 44 tt y', minus 43 tt tt tt (minus 42 tt tt tt z y') p)
-
-  below_under : Left (below_of x ix)
-  unfolding below_of of_bits
-  below_under =
-      let p = constant 0x3dd0b4611a626331 0 tt tt in
-      let q = constant 0x3ba3198a2e037073 0 tt tt in
-      let z = plus 21 tt tt tt u (constant 0x3ff921fb54400000 1 tt tt) in
-      let v = plus 22 tt tt tt z (constant 0x3dd0b4611a600000 0 tt tt) in
-      let y = plus 23 tt tt tt v q in
-      let y' = plus 22 tt tt tt z p in
-      pick_is Left (eqb ix 0x3ff921fb) (lift 44 tt y, plus 43 tt tt tt (minus 42 tt tt tt v y) q) (lift 44 tt y', plus 43 tt tt tt (minus 42 tt tt tt z y') p)
-
 pub zero_under : Under 44 (bits 0)
 unfolding of_bits
 zero_under = constant 0 44 tt tt
+
+one_under : Under 31 one
+unfolding of_bits
+one_under = constant 0x3ff0000000000000 31 tt tt
+
+above_under : (x : Float) (ix : ℕ) → Under 21 x → Left (above_of x ix)
+above_under x ix u = subst Left (near_above x ix) (near_under one one_under x 1 ix u)
+
+below_under : (x : Float) (ix : ℕ) → Under 21 x → Left (below_of x ix)
+below_under x ix u = subst Left (near_below x ix) (near_under (neg one) (neg_under one_under) x 3 ix u)
 
 pub rem_under : (x : Float) → high_word x ≤ reach → Under 21 x → LeftOf (rem_pio2 x)
 unfolding rem_pio2

@@ -1,1 +1,2 @@
 pub mod Reduction
+pub mod Near

@@ -1,6 +1,6 @@
 -- The reduction of an angle by multiples of pi/2: e_rem_pio2.c of fdlibm 5.3, up to its medium range; its constants by the bits
 -- that its comments give. Definitions only.
-use Rattle.std.specs.Prelude.{ℕ, ◌+◌, ◌-◌, ◌/◌, ◌^◌, not, ◌&&◌, List, [], ◌∷◌, ltb, leb, eqb, pos, get_or, Float}
+use Rattle.std.specs.Prelude.{ℕ, ◌+◌, ◌-◌, ◌/◌, ◌^◌, not, ◌&&◌, List, [], ◌∷◌, ltb, leb, eqb, pos, get_or, Float, Option, Some, None}
 use Rattle.std.specs.Int.Bits.{bit_and}
 use Rattle.std.specs.Float.{binary64}
 use Rattle.std.specs.Float.Ieee.{neg, of_int, to_unsigned}
@@ -9,8 +9,6 @@ use Rattle.number.specs.Operators.{◌⊕◌, ◌⊖◌, ◌⊗◌, bits}
 use Rattle.number.specs.Helpers.{half, abs_of}
 use Rattle.reduction.specs.declared.Reduction.{Reduction}
 use Rattle.reduction.specs.declared.Difference.{Difference}
-use Rattle.reduction.specs.declared.Reduced.{Reduced}
-use Rattle.reduction.specs.declared.Reduced.TheVariants.{To, Beyond}
 use Rattle.number.specs.Words.{high_word, sign_bit, exponent_field}
 
 -- invpio2 of e_rem_pio2.c: 53 digits of 2/pi
@@ -45,6 +43,10 @@ npio2hw =
     ∷ 0x4031475c ∷ 0x4032d97c ∷ 0x40346b9c ∷ 0x4035fdbb ∷ 0x40378fdb ∷ 0x403921fb ∷ 0x403ab41b ∷ 0x403c463a ∷ 0x403dd85a ∷ 0x403f6a7a
     ∷ 0x40407e4c ∷ 0x4041475c ∷ 0x4042106c ∷ 0x4042d97c ∷ 0x4043a28c ∷ 0x40446b9c ∷ 0x404534ac ∷ 0x4045fdbb ∷ 0x4046c6cb ∷ 0x40478fdb
     ∷ 0x404858eb ∷ 0x404921fb ∷ []
+
+-- y[0] = r - w, y[1] = (r - y[0]) - w, and n
+unfoldable pub taken_of : Difference → ℕ → Reduction
+taken_of d n = record { quadrant = n; y0 = d.r ⊖ d.w; y1 = d.r ⊖ (d.r ⊖ d.w) ⊖ d.w }
 
 -- |x| < 3pi/4, the special case with n = 1, for a positive x: one step, or two where the high word is that of pi/2
 unfoldable pub above_of : Float → ℕ → Reduction
@@ -90,8 +92,7 @@ unfoldable pub medium_of : Float → ℕ → Reduction
 medium_of t ix =
     let n = to_unsigned 31 (t ⊗ invpio2 ⊕ half) in
     let fn = of_int binary64 (pos n) in
-    let d = refined_of (first_difference t fn) n fn ix in
-    record { quadrant = bit_and n 3; y0 = d.r ⊖ d.w; y1 = d.r ⊖ (d.r ⊖ d.w) ⊖ d.w }
+    taken_of (refined_of (first_difference t fn) n fn ix) (bit_and n 3)
 
 -- hx < 0: y0, y1 and n negated; of n modulo 4 that is (4 - n) modulo 4
 unfoldable pub negated_of : Reduction → Reduction
@@ -101,12 +102,12 @@ negated_of a = record { quadrant = bit_and (4 - bit_and a.quadrant 3) 3; y0 = ne
 abbrev pub reach : ℕ
 reach = 0x413921fb
 
--- __ieee754_rem_pio2(x, y): n modulo 4 and y, or `Beyond`
-unfoldable pub rem_pio2 : Float → Reduced
+-- __ieee754_rem_pio2(x, y): n modulo 4 and y, or none beyond reach
+unfoldable pub rem_pio2 : Float → Option Reduction
 rem_pio2 x =
     let ix = high_word x in
     let a = medium_of (abs_of x) ix in
-    pick (leb ix 0x3fe921fb) (To (record { quadrant = 0; y0 = x; y1 = bits 0 }))
-    (pick (ltb ix 0x4002d97c) (To (pick (eqb (sign_bit x) 0) (above_of x ix) (below_of x ix)))
-    (pick (leb ix reach) (To (pick (eqb (sign_bit x) 0) a (negated_of a)))
-    (pick (leb 0x7ff00000 ix) (To (record { quadrant = 0; y0 = x ⊖ x; y1 = x ⊖ x })) Beyond)))
+    pick (leb ix 0x3fe921fb) (Some (record { quadrant = 0; y0 = x; y1 = bits 0 }))
+    (pick (ltb ix 0x4002d97c) (Some (pick (eqb (sign_bit x) 0) (above_of x ix) (below_of x ix)))
+    (pick (leb ix reach) (Some (pick (eqb (sign_bit x) 0) a (negated_of a)))
+    (pick (leb 0x7ff00000 ix) (Some (record { quadrant = 0; y0 = x ⊖ x; y1 = x ⊖ x })) None)))

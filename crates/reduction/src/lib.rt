@@ -4,21 +4,17 @@
 
 ghost use Rattle.std.specs.Prelude.{◌≡◌, ◌<◌, get_or};
 ghost use Rattle.std.specs.Float.Ieee.{to_unsigned};
-ghost use Rattle.reduction.specs.Reduction.{npio2hw, rem_pio2, above_of, below_of, medium_of, negated_of, first_difference, next_difference, careful_of, refined_of};
+ghost use Rattle.reduction.specs.Reduction.{npio2hw, rem_pio2, taken_of, medium_of, negated_of};
+ghost use Rattle.reduction.specs.Reduction.{first_difference, next_difference, careful_of, refined_of};
+ghost use Rattle.reduction.specs.Near.{near_of};
 
 // The quadrant, n modulo 4, and the angle that is left: y0 with its tail y1.
+// Kept (1): the quadrant is a number, which the C reckons with (n & 3, -n) before its switch tells the four apart.
 #[derive(Clone, Copy)]
 pub struct Reduction {
     pub quadrant: u64,
     pub y0: f64,
     pub y1: f64,
-}
-
-// What the reduction answers; the angles beyond reach have no answer.
-#[derive(Clone, Copy)]
-pub enum Reduced {
-    To(Reduction),
-    Beyond,
 }
 
 // A difference r - w that is not taken yet.
@@ -46,6 +42,7 @@ const PIO2_3: f64 = 2.02226624871116645580e-21;
 const PIO2_3T: f64 = 8.47842766036889956997e-32;
 
 // The whole part, as C's cast to int has it, of a number that is not negative; 0 of a negative one.
+// Kept (4): with std's `saturating_f64_to_u64` in its place (tried) sine and cosine beyond 3pi/4 take 4% longer.
 fn truncated(x: f64) -> u64
     ensures { result ≡ to_unsigned 31 x }
 {
@@ -65,53 +62,20 @@ fn truncated(x: f64) -> u64
     }
 }
 
-// An angle above pi/4 and below 3pi/4.
-fn near_above(x: f64, ix: u64) -> Reduction
-    ensures { result ≡ above_of x ix }
+// What a difference comes to: y0 is its rounded value, and the tail y1 what the rounding left out.
+fn taken(d: Difference, quadrant: u64) -> Reduction
+    ensures { result ≡ taken_of d quadrant }
 {
-    let z = x - PIO2_1;
-    if ix == 0x3ff9_21fb {
-        let v = z - PIO2_2;
-        let y0 = v - PIO2_2T;
-        Reduction {
-            quadrant: 1,
-            y0,
-            y1: (v - y0) - PIO2_2T,
-        }
-    } else {
-        let y0 = z - PIO2_1T;
-        Reduction {
-            quadrant: 1,
-            y0,
-            y1: (z - y0) - PIO2_1T,
-        }
-    }
-}
-
-// An angle below -pi/4 and above -3pi/4; n is -1.
-fn near_below(x: f64, ix: u64) -> Reduction
-    ensures { result ≡ below_of x ix }
-{
-    let z = x + PIO2_1;
-    if ix == 0x3ff9_21fb {
-        let v = z + PIO2_2;
-        let y0 = v + PIO2_2T;
-        Reduction {
-            quadrant: 3,
-            y0,
-            y1: (v - y0) + PIO2_2T,
-        }
-    } else {
-        let y0 = z + PIO2_1T;
-        Reduction {
-            quadrant: 3,
-            y0,
-            y1: (z - y0) + PIO2_1T,
-        }
+    let y0 = d.r - d.w;
+    Reduction {
+        quadrant,
+        y0,
+        y1: (d.r - y0) - d.w,
     }
 }
 
 // t less n pi/2 with 33 digits of pi/2 taken exactly, the rest in w.
+// Kept (2): not `next_difference` from a difference of t and 0, since the C's first step takes back no rounding.
 fn first_difference(t: f64, n: f64) -> Difference
     ensures { result ≡ first_difference t n }
 {
@@ -119,6 +83,21 @@ fn first_difference(t: f64, n: f64) -> Difference
         r: t - n * PIO2_1,
         w: n * PIO2_1T,
     }
+}
+
+// x less n pi/2 for an n of 1 or -1, by one step, or by two where the high word is that of pi/2.
+fn near(x: f64, n: f64, quadrant: u64, ix: u64) -> Reduction
+    ensures { result ≡ near_of x n quadrant ix }
+{
+    let d = first_difference(x, n);
+    if ix != 0x3ff9_21fb {
+        return taken(d, quadrant);
+    }
+    let second = Difference {
+        r: d.r - n * PIO2_2,
+        w: n * PIO2_2T,
+    };
+    taken(second, quadrant)
 }
 
 // 33 digits more: part holds them, and rest what comes after them.
@@ -176,12 +155,7 @@ fn medium(t: f64, ix: u64) -> Reduction
     let whole = truncated(t * INVPIO2 + 0.5);
     let n = whole as f64;
     let d = refined(first_difference(t, n), whole, n, ix);
-    let y0 = d.r - d.w;
-    Reduction {
-        quadrant: whole & 3,
-        y0,
-        y1: (d.r - y0) - d.w,
-    }
+    taken(d, whole & 3)
 }
 
 // The same for the angle of the other sign.
@@ -195,38 +169,34 @@ fn negated(a: Reduction) -> Reduction
     }
 }
 
-// An angle x less a multiple of pi/2: at most about pi/4 is left.
-pub fn rem_pio2(x: f64) -> Reduced
+// An angle x less a multiple of pi/2: at most about pi/4 is left. None for an angle beyond reach.
+pub fn rem_pio2(x: f64) -> Option<Reduction>
     ensures { result ≡ rem_pio2 x }
 {
     let ix = number::high_word(x);
     let sign = number::sign_bit(x);
     if ix <= 0x3fe9_21fb {
-        Reduced::To(Reduction {
+        Some(Reduction {
             quadrant: 0,
             y0: x,
             y1: 0.0,
         })
     } else if ix < 0x4002_d97c {
-        if sign == 0 {
-            Reduced::To(near_above(x, ix))
+        Some(if sign == 0 {
+            near(x, 1.0, 1, ix)
         } else {
-            Reduced::To(near_below(x, ix))
-        }
+            near(x, -1.0, 3, ix)
+        })
     } else if ix <= REACH {
         let a = medium(number::abs(x), ix);
-        if sign == 0 {
-            Reduced::To(a)
-        } else {
-            Reduced::To(negated(a))
-        }
+        Some(if sign == 0 { a } else { negated(a) })
     } else if 0x7ff0_0000 <= ix {
-        Reduced::To(Reduction {
+        Some(Reduction {
             quadrant: 0,
             y0: x - x,
             y1: x - x,
         })
     } else {
-        Reduced::Beyond
+        None
     }
 }

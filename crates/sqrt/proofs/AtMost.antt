@@ -1,5 +1,4 @@
 -- Whether a root is at most c, told by squares that are clearly apart: twice the square of c is below the number, or twice the number is at most the square.
---
 use Rattle.std.proofs.Common.{◌≡◌, ℕ, ◌+◌, ◌-◌, ◌*◌, ◌/◌, ◌%◌, ◌^◌, ◌<◌, ◌≤◌, Bool, true, false, T, ◌⊎◌, sym, refl, ap, ◌∙◌, subst, inl, inr, zero-le, le_trans, le_of_eq, le_refl, lt_of_lt_of_le, le_of_suc-le-suc, le-add_right, add-le-add, mul-le-mul_right, mul-le-mul, mul-pos, lt_of_not-le, mul-one, mul-add, not-le_of_lt, le_of_mul-le-mul_right, arith, lit<, lit≤, pow_pos}
 use Prim.Native.Nat.{compare}
 use native.Mathlib.Nat.{le_of_mul-le-mul_left}

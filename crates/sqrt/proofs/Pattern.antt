@@ -1,10 +1,9 @@
 -- The bit pattern of q * 2 ^ k units, for a q of 53 digits, or 2 ^ 53: k * 2 ^ 52 + q.
-use Rattle.std.proofs.Common.{◌≡◌, ℕ, suc, ◌+◌, ◌-◌, ◌*◌, ◌/◌, ◌%◌, ◌^◌, ◌<◌, ◌≤◌, Bool, true, false, cond, T, ltb, sym, ap, ◌∙◌, inl, inr, true≢false, le_trans, le_of_eq, le_refl, lt_of_lt_of_le, lt_of_le_of_lt, mul-le-mul_right, mul-le-mul, eq-or-lt_of_le, mul-lt-mul_of_pos_right, zero-add, mul-div_cancel, arith, lit<, lit≤, ltb→lt, lt→ltb, pow_pos, pow_mono, pow-add}
-use lib.Arith.{le→nltb}
+use Rattle.std.proofs.Common.{◌≡◌, ℕ, suc, ◌+◌, ◌-◌, ◌*◌, ◌/◌, ◌^◌, ◌<◌, ◌≤◌, Bool, true, false, cond, T, ltb, sym, ap, ◌∙◌, inl, inr, true≢false, le_trans, le_of_eq, le_refl, lt_of_lt_of_le, lt_of_le_of_lt, mul-le-mul_right, mul-le-mul, eq-or-lt_of_le, mul-lt-mul_of_pos_right, zero-add, mul-div_cancel, arith, lit<, lit≤, ltb→lt, lt→ltb, pow_pos, pow_mono, pow-add}
 use lib.Pow.{pow-lt}
 use lib.Ieee.{Float, inf, fin, binary64, down, size, odd, units, fits, to_bits, of_bits, nan_bits}
 use lib.Ieee.Fits.{odd-fits, down_pos}
-use lib.Ieee.Bits.{of_bits-to_bits, nan_bits_above, is_false}
+use lib.Ieee.Bits.{of_bits-to_bits}
 use lib.Ieee.Exact.{HasValue, units_val}
 use lib.Ieee.Scale.{finite}
 use Rattle.sqrt.proofs.Rounded.{dropped}
@@ -74,7 +73,3 @@ pub bits_units : (q k : ℕ) → 2 ^ 52 ≤ q → q ≤ 2 ^ 53 → k ≤ 1533 �
 bits_units q k lo hi top =
     ap (of_bits binary64) (sym (to_bits_of (units binary64 false q k) (q * 2 ^ k) (units_val binary64 false q k (under_top q k hi top)) ∙ field' q k lo hi))
     ∙ of_bits-to_bits binary64 (units binary64 false q k) (units_fits q k hi)
-
--- no pattern up to infinity's is a NaN's
-pub no_nan_bits : (b : ℕ) → b ≤ 2047 * 2 ^ 52 → nan_bits binary64 b ≡ false
-no_nan_bits b h = nan_bits_above binary64 b ∙ is_false (ltb (2047 * 2 ^ 52) (b % 2 ^ 63)) (le→nltb (2047 * 2 ^ 52) (b % 2 ^ 63) (omega arith))

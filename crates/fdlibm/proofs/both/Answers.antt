@@ -29,6 +29,6 @@ pub returns : goal.returns
 unfolding sin_of cos_of
 returns c =
     let w = c.high_word-ix.ensures in (
-      rw (c.both_at.ensures.0, ← w, lt-leb _ _ c.if-ix-le1072243195.false, lt-leb _ _ c.if-ix-ge2146435072.false, ← c.rem_pio2.ensures, c.in-To.is),
-      rw (c.both_at.ensures.1, ← w, lt-leb _ _ c.if-ix-le1072243195.false, lt-leb _ _ c.if-ix-ge2146435072.false, ← c.rem_pio2.ensures, c.in-To.is),
+      rw (c.both_at.ensures.0, ← w, lt-leb _ _ c.if-ix-le1072243195.false, lt-leb _ _ c.if-ix-ge2146435072.false, ← c.rem_pio2.ensures, c.in-Some.is),
+      rw (c.both_at.ensures.1, ← w, lt-leb _ _ c.if-ix-le1072243195.false, lt-leb _ _ c.if-ix-ge2146435072.false, ← c.rem_pio2.ensures, c.in-Some.is),
     )

@@ -1,26 +1,12 @@
 use borrow.Author.Tests.{le-leb, lt-leb}
-use mathlib.Core.Path.{◌≡◌, refl}
-use native.Mathlib.Omega.{arith}
-use Prim.Native.Nat.{ℕ, ◌/◌, ◌^◌, ◌≤◌}
-use lib.Bits.{and_le_r}
-use lib.Ieee.{Float, binary64, to_bits}
-use Rattle.number.specs.Words.{exponent_field}
+use mathlib.Core.Path.{refl}
 use Rattle.loops.proofs.Choice.{pick_taken, pick_left}
 use Rattle.reduction.specs.Reduction.{careful_of}
 use Rattle.reduction.proofs.careful.Goals as goal
 
-most : (x : Float) (e : ℕ) → e ≡ exponent_field x → e ≤ 2047
-most x e h = omega (arith, and_le_r (to_bits binary64 x / 2 ^ 52) 2047)
-
-pub overflow_add-e : goal.overflow_add-e
-overflow_add-e c = omega (arith, most _ _ c.exponent_field-e.ensures)
-
 pub returns-then-j-e : goal.returns-then-j-e
 unfolding careful_of
 returns-then-j-e c = rw (← c.exponent_field-e.ensures) (pick_taken _ (le-leb _ _ c.if-j-e.true) refl)
-
-pub overflow_add-e2 : goal.overflow_add-e2
-overflow_add-e2 c = omega (arith, most _ _ c.exponent_field-e2.ensures)
 
 pub returns-then-j-e2 : goal.returns-then-j-e2
 unfolding careful_of

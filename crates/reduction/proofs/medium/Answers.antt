@@ -18,4 +18,4 @@ int_to_float-n c = exact _ _ c.truncated-whole.ensures
 
 pub returns : goal.returns
 unfolding medium_of
-returns c = rw (c.refined-d.ensures, c.first_difference.ensures, c.truncated-whole.ensures)
+returns c = rw (c.taken.ensures, c.refined-d.ensures, c.first_difference.ensures, c.truncated-whole.ensures)

@@ -1,12 +1,12 @@
 -- The products' high words are the C's table, by one computed test of its 32 entries.
 use mathlib.Core.Path.{◌≡◌, refl, sym}
 use mathlib.Core.Bool.{Bool, true, false, not, false≢true}
-use Prim.Native.Nat.{ℕ, ◌^◌, ◌<◌}
+use Prim.Native.Nat.{ℕ, ◌<◌}
 use native.Mathlib.Omega.{arith}
-use lib.Dec.{T, eqb, eqb→eq, le→leb}
+use lib.Dec.{T, eqb, eqb→eq}
 use lib.IntN.{pos}
 use lib.ListN.{get_or}
-use lib.Ieee.{binary64, in_float, of_int}
+use lib.Ieee.{binary64, of_int}
 use Rattle.loops.specs.Loop.{exits}
 use Rattle.loops.specs.Any.{any_in}
 use Rattle.loops.proofs.Any.{any_fails}
@@ -32,13 +32,6 @@ holds false e = absurd (false≢true (sym e))
 
 entry : (n : ℕ) → n < 32 → word n ≡ get_or npio2hw n 0
 entry n h = eqb→eq (word n) (get_or npio2hw n 0) (holds (eqb (word n) (get_or npio2hw n 0)) (any_fails differs 0 32 none_differs n (omega arith) h))
-
-exact : (n : ℕ) → n < 32 → T (in_float binary64 (pos n))
-unfolding in_float
-exact n h = le→leb n (2 ^ 53) (omega arith)
-
-pub int_to_float-n : goal.int_to_float-n
-int_to_float-n c = exact _ c.requires
 
 pub returns : goal.returns
 returns c = rw c.high_word.ensures (entry _ c.requires)

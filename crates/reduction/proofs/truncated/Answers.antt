@@ -1,9 +1,6 @@
-use native.Mathlib.Omega.{arith}
 use mathlib.Core.Path.{sym, ap, subst}
-use Prim.Native.Nat.{ℕ, ◌+◌, ◌^◌, ◌<◌}
 use lib.Dec.{T}
-use lib.Bits.{bit_and, and_le_r}
-use lib.Ieee.{binary64, to_bits, to_unsigned, fits}
+use lib.Ieee.{binary64, to_unsigned, fits}
 use Rattle.reduction.proofs.Truncation.{no_part, whole_part, most_part, negative_part}
 use Rattle.number.proofs.Sign.{is_nan_lem, no_nan}
 use Rattle.reduction.proofs.truncated.Goals as goal
@@ -12,18 +9,12 @@ use Rattle.reduction.proofs.truncated.Goals.{Start}
 held : (c : Start) → T (fits binary64 c.args.x)
 held c = subst T (sym c.well_formed.0.1) tt
 
-digits : (b : ℕ) → bit_and b 0xfffffffffffff + 0x10000000000000 < 2 ^ 64
-digits b = omega (arith, and_le_r b 0xfffffffffffff)
-
 pub returns-then-x : goal.returns-then-x
 unfolding to_unsigned
 returns-then-x c = sym (ap (to_unsigned 31) (is_nan_lem c.args.x c.if-x.true))
 
 pub float_to_bits-bits : goal.float_to_bits-bits
 float_to_bits-bits c = no_nan c.args.x c.if-x.false
-
-pub overflow_add-result : goal.overflow_add-result
-overflow_add-result c = record { fits = digits (to_bits binary64 c.args.x) }
 
 pub returns-then-exponent-lt1023 : goal.returns-then-exponent-lt1023
 returns-then-exponent-lt1023 c = sym (no_part c.args.x (held (goal.at.returns-then-exponent-lt1023 c).Start) c.if-exponent-lt1023.true)

@@ -11,6 +11,3 @@ pub returns-then-x-square : goal.returns-then-x-square
 returns-then-x-square c =
     sym (near c.args.x c.args.c (passes _ c.well_formed.0.1) (passes _ c.well_formed.1.0.1) (passes _ c.if-c.true)
     (passes _ c.if-x.true) (passes _ c.if-square.true) (passes _ c.if-x-square.true))
-
-pub returns : goal.returns
-returns c = rw c.sqrt.ensures.answer

@@ -1,5 +1,5 @@
 -- The invariant: the digits found and those left make up the number, before each iteration.
-use Rattle.std.proofs.Common.{◌≡◌, ℕ, suc, ◌+◌, ◌-◌, ◌*◌, ◌/◌, ◌%◌, ◌^◌, ◌<◌, ◌≤◌, sym, ap, ◌∙◌, subst, lt_of_lt_of_le, mod-lt, mod-eq_of_lt, mul_assoc, mul_comm, mul-pos, pow-suc, zero-add, mul-one, arith, lit<, pow_mono, pow-add}
+use Rattle.std.proofs.Common.{◌≡◌, ℕ, suc, ◌+◌, ◌-◌, ◌*◌, ◌/◌, ◌%◌, ◌^◌, ◌<◌, sym, ap, ◌∙◌, subst, mod-lt, mul_assoc, mul_comm, mul-pos, pow-suc, mul-one, arith, lit<, pow-add}
 use Rattle.sqrt.proofs.Root.{nearest_up, nearest_down}
 use Rattle.sqrt.proofs.by_digits.Goals as goal
 use Rattle.sqrt.proofs.by_digits.Invariants.{Left}
@@ -17,71 +17,48 @@ one_less i h = omega arith
 doubles : (q w i : ℕ) → q < 2 ^ i → w < 2 * q + 2 → w < 2 ^ (i + 1)
 doubles q w i a b = omega (arith, pow-add 2 i 1)
 
-none_left : (a N x : ℕ) → x < 2 ^ 64 → Left a N x 0 → N ≡ a * 4503599627370496
-none_left a N x l h = whole N x (a * 4503599627370496) l (sym (mul-one (N * 2 ^ 64 + x)) ∙ h ∙ sorted)
+none_left : (a N x : ℕ) → x < 2 ^ 64 → Left a N x 0 → N ≡ a * 2 ^ 52
+none_left a N x l h = whole N x (a * 2 ^ 52) l (sym (mul-one (N * 2 ^ 64 + x)) ∙ h ∙ sorted)
   where
     whole : (N x K : ℕ) → x < 2 ^ 64 → N * 2 ^ 64 + x ≡ K * 2 ^ 64 → N ≡ K
     whole N x K l e = omega arith
 
-    sorted : a * 2 ^ 10 * 4 ^ 53 ≡ a * 4503599627370496 * 2 ^ 64
-    sorted = mul_assoc a (2 ^ 10) (4 ^ 53) ∙ sym (mul_assoc a 4503599627370496 (2 ^ 64))
-
-fits : (a : ℕ) → a < 18014398509481984 → (a * 2 ^ 10) % 2 ^ 64 ≡ a * 2 ^ 10
-fits a h = mod-eq_of_lt (omega arith)
-
-pub loop-init : goal.loop-init
-loop-init c =
-    let a = c.args.a in
-    (ap (λ (x : ℕ). x * 4 ^ 53) (zero-add ((a * 2 ^ 10) % 2 ^ 64) ∙ fits a c.requires.1), omega arith, omega arith, mod-lt (a * 2 ^ 10) (omega arith), omega arith)
-
-pub digit-next-requires : goal.digit-next-requires
-digit-next-requires c =
-    let s = c.loop in
-    (s.invariant.1, lt_of_lt_of_le s.invariant.2 (pow_mono {j = 53} s.invariant.4), omega (arith, s.invariant.3))
-
-pub overflow_step : goal.overflow_step
-overflow_step c = omega arith
-
-pub loop-smaller : goal.loop-smaller
-loop-smaller c = omega arith
+    sorted : a * 2 ^ 10 * 4 ^ 53 ≡ a * 2 ^ 52 * 2 ^ 64
+    sorted = mul_assoc a (2 ^ 10) (4 ^ 53) ∙ sym (mul_assoc a (2 ^ 52) (2 ^ 64))
 
 pub loop-preserved : goal.loop-preserved
 loop-preserved c =
     let s = c.loop in
-    let d = c.digit-next.ensures in
-    let a = c.args.a in
-    let n = s.q * s.q + s.r in
+    let q = s.found.0 in
+    let n = q * q + s.found.1.0 in
+    let w = c.digit-found.result in
+    let d = c.digit-found.ensures in
     let k = 53 - (s.counter + 1) in
-    let l = subst (Left a n s.x) (one_less s.counter c.loop-test.true) s.invariant.0 in (
-      subst (λ (N : ℕ). Left a N ((s.x * 2 ^ 2) % 2 ^ 64) k) (sym d.is) (two_more a n s.x k l),
-      d.rest,
-      doubles s.q c.digit-next.result.root s.counter s.invariant.2 d.longer,
+    let l = subst (Left c.args.a n s.x) (one_less s.counter c.loop-test.true) s.invariant.0 in (
+      subst (λ (N : ℕ). Left c.args.a N ((s.x * 2 ^ 2) % 2 ^ 64) k) (sym d.is) (two_more c.args.a n s.x k l),
+      w.whole,
+      doubles q w.root s.counter s.invariant.2 d.longer,
       mod-lt (s.x * 2 ^ 2) (omega arith),
       omega arith,
     )
 
--- the whole number's root, with its remainder, and that it is small
+-- the whole number's root, with its remainder
 whole_root : (c : After-loop) → let s = c.loop in
-    (s.q * s.q + s.r ≡ c.args.a * 4503599627370496) × (s.r ≤ 2 * s.q) × (s.q < 2 ^ 53)
+    s.found.0 * s.found.0 + s.found.1.0 ≡ c.args.a * 2 ^ 52
 whole_root c =
     let s = c.loop in
-    let a = c.args.a in
-    let n = s.q * s.q + s.r in
     let z : s.counter ≡ 53 = omega (arith, c.loop-test.false, s.invariant.4) in
-    let l = subst (λ (k : ℕ). Left a n s.x (53 - k)) z s.invariant.0 in
-    (none_left a n s.x s.invariant.3 l, s.invariant.1, subst (λ (k : ℕ). s.q < 2 ^ k) z s.invariant.2)
+    let n = s.found.0 * s.found.0 + s.found.1.0 in
+    none_left c.args.a n s.x s.invariant.3 (subst (λ (k : ℕ). Left c.args.a n s.x (53 - k)) z s.invariant.0)
 
-pub overflow_add-result : goal.overflow_add-result
-overflow_add-result c = omega (arith, (whole_root (goal.at.overflow_add-result c).After-loop).2)
+pub returns-then-root-rest : goal.returns-then-root-rest
+returns-then-root-rest c =
+    let w = whole_root (goal.at.returns-then-root-rest c).After-loop in
+    let q = c.loop.found in
+    nearest_up (c.args.a * 2 ^ 52) q.0 q.1.0 w c.loop.invariant.1 c.if-root-rest.true
 
-pub returns-then-q-r : goal.returns-then-q-r
-returns-then-q-r c =
-    let w = whole_root (goal.at.returns-then-q-r c).After-loop in
-    let s = c.loop in
-    nearest_up (c.args.a * 4503599627370496) s.q s.r w.0 w.1 c.if-q-r.true
-
-pub returns-else-q-r : goal.returns-else-q-r
-returns-else-q-r c =
-    let w = whole_root (goal.at.returns-else-q-r c).After-loop in
-    let s = c.loop in
-    nearest_down (c.args.a * 4503599627370496) s.q s.r (mul-pos c.requires.0 (lit< tt)) w.0 c.if-q-r.false
+pub returns-else-root-rest : goal.returns-else-root-rest
+returns-else-root-rest c =
+    let w = whole_root (goal.at.returns-else-root-rest c).After-loop in
+    let q = c.loop.found in
+    nearest_down (c.args.a * 2 ^ 52) q.0 q.1.0 (mul-pos c.requires.0 (lit< tt)) w c.if-root-rest.false

@@ -7,7 +7,7 @@ abbrev pub Left : ℕ → ℕ → ℕ → ℕ → Type 0
 Left a N x k = (N * 2 ^ 64 + x) * 4 ^ k ≡ a * 2 ^ 10 * 4 ^ 53
 
 abbrev pub invariant-loop : goal.invariant-loop
-invariant-loop l = Left l.a (l.q * l.q + l.r) l.x (53 - l.counter) × (l.r ≤ 2 * l.q) × (l.q < 2 ^ l.counter) × (l.x < 2 ^ 64) × (l.counter ≤ 53)
-
-abbrev pub decreases-loop : goal.decreases-loop
-decreases-loop l = 53 - l.counter
+invariant-loop l =
+    let q = l.found.0 in
+    let r = l.found.1.0 in
+    Left l.a (q * q + r) l.x (53 - l.counter) × (r ≤ 2 * q) × (q < 2 ^ l.counter) × (l.x < 2 ^ 64) × (l.counter ≤ 53)

@@ -54,14 +54,10 @@ module _ (c : Else-x) where
 pub float_to_bits-bits : goal.float_to_bits-bits
 float_to_bits-bits c = no_nan c.args.x c.if-x.false
 
-pub overflow_add-exponent : goal.overflow_add-exponent
-overflow_add-exponent c = omega (arith, exp_le c, fraction c)
-
-pub scaled-s-requires : goal.scaled-s-requires
-scaled-s-requires c = omega (arith, c.if-exponent-eq2047.false, c.if-exponent-fraction-eq0.false, fraction (goal.at.scaled-s-requires c).Else-x, exp_le (goal.at.scaled-s-requires c).Else-x)
-
-pub root_of-requires : goal.root_of-requires
-root_of-requires c = let s = c.scaled-s.ensures in (s.lo, s.hi, s.top)
+pub scaled-requires : goal.scaled-requires
+scaled-requires c =
+    let d = (goal.at.scaled-requires c).Else-x in
+    omega (arith, c.if-exponent-eq2047.false, c.if-exponent-fraction-eq0.false, fraction d, exp_le d)
 
 -- a NaN
 pub returns-then-x : goal.returns-then-x
@@ -73,26 +69,30 @@ returns-then-x c =
 -- a zero
 pub returns-then-exponent-fraction-eq0 : goal.returns-then-exponent-fraction-eq0
 returns-then-exponent-fraction-eq0 c =
-    let s = leb (2 ^ 63) (b (goal.at.returns-then-exponent-fraction-eq0 c).Else-x) in
-    let z : (e (goal.at.returns-then-exponent-fraction-eq0 c).Else-x ≡ 0) × (t (goal.at.returns-then-exponent-fraction-eq0 c).Else-x ≡ 0) = (omega (arith, c.if-exponent-fraction-eq0.true), omega (arith, c.if-exponent-fraction-eq0.true)) in
-    let q : x (goal.at.returns-then-exponent-fraction-eq0 c).Else-x ≡ at s 0 0 = is (goal.at.returns-then-exponent-fraction-eq0 c).Else-x ∙ ap (λ (y : ℕ). at s y (t (goal.at.returns-then-exponent-fraction-eq0 c).Else-x)) z.0 ∙ ap (at s 0) z.1 in
-    gives (x (goal.at.returns-then-exponent-fraction-eq0 c).Else-x) _ (held (goal.at.returns-then-exponent-fraction-eq0 c).Else-x) (q ∙ sym (zero_field s) ∙ sym (ap sqrt_of q))
+    let d = (goal.at.returns-then-exponent-fraction-eq0 c).Else-x in
+    let s = leb (2 ^ 63) (b d) in
+    let z : (e d ≡ 0) × (t d ≡ 0) = (omega (arith, c.if-exponent-fraction-eq0.true), omega (arith, c.if-exponent-fraction-eq0.true)) in
+    let q : x d ≡ at s 0 0 = is d ∙ ap (λ (y : ℕ). at s y (t d)) z.0 ∙ ap (at s 0) z.1 in
+    gives (x d) _ (held d) (q ∙ sym (zero_field s) ∙ sym (ap sqrt_of q))
 
 -- negative
 pub returns-then-sign-eq1 : goal.returns-then-sign-eq1
 unfolding of_bits div
-returns-then-sign-eq1 c = gives (x (goal.at.returns-then-sign-eq1 c).Else-x) _ (held (goal.at.returns-then-sign-eq1 c).Else-x) (sym (ap sqrt_of (is_neg (goal.at.returns-then-sign-eq1 c).Else-x c.if-sign-eq1.true) ∙ negative (e (goal.at.returns-then-sign-eq1 c).Else-x) (t (goal.at.returns-then-sign-eq1 c).Else-x) (exp_le (goal.at.returns-then-sign-eq1 c).Else-x) (omega (arith, c.if-exponent-fraction-eq0.false))))
+returns-then-sign-eq1 c =
+    let d = (goal.at.returns-then-sign-eq1 c).Else-x in
+    let n = negative (e d) (t d) (exp_le d) (omega (arith, c.if-exponent-fraction-eq0.false)) in
+    gives (x d) _ (held d) (sym (ap sqrt_of (is_neg d c.if-sign-eq1.true) ∙ n))
 
 -- the infinity
 pub returns-then-exponent-eq2047 : goal.returns-then-exponent-eq2047
 returns-then-exponent-eq2047 c =
-    let q : x (goal.at.returns-then-exponent-eq2047 c).Else-x ≡ at false 2047 (t (goal.at.returns-then-exponent-eq2047 c).Else-x) = is_pos (goal.at.returns-then-exponent-eq2047 c).Else-x c.if-sign-eq1.false ∙ ap (λ (k : ℕ). at false k (t (goal.at.returns-then-exponent-eq2047 c).Else-x)) c.if-exponent-eq2047.true in
-    gives (x (goal.at.returns-then-exponent-eq2047 c).Else-x) _ (held (goal.at.returns-then-exponent-eq2047 c).Else-x) (q ∙ sym (infinite (t (goal.at.returns-then-exponent-eq2047 c).Else-x)) ∙ sym (ap sqrt_of q))
+    let d = (goal.at.returns-then-exponent-eq2047 c).Else-x in
+    let q : x d ≡ at false 2047 (t d) = is_pos d c.if-sign-eq1.false ∙ ap (λ (k : ℕ). at false k (t d)) c.if-exponent-eq2047.true in
+    gives (x d) _ (held d) (q ∙ sym (infinite (t d)) ∙ sym (ap sqrt_of q))
 
 -- finite, and above zero
 pub returns-else-exponent-eq2047 : goal.returns-else-exponent-eq2047
 returns-else-exponent-eq2047 c =
-    gives (x (goal.at.returns-else-exponent-eq2047 c).Else-x) _ (held (goal.at.returns-else-exponent-eq2047 c).Else-x)
-    (c.root_of.ensures
-    ∙ ap round_root c.scaled-s.ensures.is
-    ∙ sym (ap sqrt_of (is_pos (goal.at.returns-else-exponent-eq2047 c).Else-x c.if-sign-eq1.false) ∙ positive (e (goal.at.returns-else-exponent-eq2047 c).Else-x) (t (goal.at.returns-else-exponent-eq2047 c).Else-x) (omega (arith, exp_le (goal.at.returns-else-exponent-eq2047 c).Else-x, c.if-exponent-eq2047.false)) (omega (arith, c.if-exponent-fraction-eq0.false))))
+    let d = (goal.at.returns-else-exponent-eq2047 c).Else-x in
+    let p = positive (e d) (t d) (omega (arith, exp_le d, c.if-exponent-eq2047.false)) (omega (arith, c.if-exponent-fraction-eq0.false)) in
+    gives (x d) _ (held d) (c.root.ensures ∙ ap round_root c.scaled.ensures ∙ sym (ap sqrt_of (is_pos d c.if-sign-eq1.false) ∙ p))

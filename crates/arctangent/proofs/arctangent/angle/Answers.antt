@@ -1,15 +1,6 @@
 use borrow.Author.Tests.{ne_eqb}
-use native.Mathlib.Omega.{arith}
-use mathlib.Core.Path.{◌≡◌}
-use Prim.Native.Nat.{ℕ, ◌/◌, ◌^◌, ◌<◌}
-use lib.Bits.{and_le_r}
-use lib.Ieee.{Float, binary64, to_bits}
-use Rattle.number.specs.Words.{high_word}
 use Rattle.arctangent.specs.Arctangent.{angle_of}
 use Rattle.arctangent.proofs.arctangent.angle.Goals as goal
-
-word : (x : Float) (w : ℕ) → w ≡ high_word x → w < 2 ^ 32
-word x w e = omega (arith, and_le_r (to_bits binary64 x / 2 ^ 32) 0x7fffffff)
 
 pub returns-then-magnitude_bits-eq0 : goal.returns-then-magnitude_bits-eq0
 unfolding angle_of
@@ -33,9 +24,6 @@ returns-then-iy-eq2146435072 c =
     rw (c.upright-then-iy-eq2146435072.ensures, c.sign_bit-y_sign.ensures, ← c.magnitude_bits.ensures, ne_eqb _ _ c.if-magnitude_bits-eq0.false)
     (rw (← c.magnitude_bits-2.ensures, ne_eqb _ _ c.if-magnitude_bits-eq0-2.false, ← c.high_word-iy.ensures, ← c.high_word-ix.ensures)
     (rw (ne_eqb _ _ c.if-ix-eq2146435072.false, c.if-iy-eq2146435072.true)))
-
-pub quotient-z-requires : goal.quotient-z-requires
-quotient-z-requires c = (word _ _ c.high_word-iy.ensures, word _ _ c.high_word-ix.ensures)
 
 pub returns : goal.returns
 unfolding angle_of

@@ -6,9 +6,3 @@ use Rattle.fdlibm.proofs.kernel.kernels.Goals as goal
 pub returns-then-ix-lt1044381696 : goal.returns-then-ix-lt1044381696
 unfolding kernel_sin kernel_cos
 returns-then-ix-lt1044381696 c = (rw (← c.high_word-ix.ensures, lt-ltb _ _ c.if-ix-lt1044381696.true), rw (← c.high_word-ix.ensures, lt-ltb _ _ c.if-ix-lt1044381696.true))
-
-pub kernel_sin-requires : goal.kernel_sin-requires
-kernel_sin-requires c = rw (← c.high_word-ix.ensures) c.if-ix-lt1044381696.false
-
-pub kernel_cos-requires : goal.kernel_cos-requires
-kernel_cos-requires c = (rw c.high_word-ix.ensures, c.if-ix-lt1044381696.false)
