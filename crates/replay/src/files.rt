@@ -2,15 +2,15 @@
 //! done (0 written, 1 read), how many words follow, the count (of a file read, how many bytes it has), the start's index (how many numbers
 //! are lent), the code, how many numbers are lent, how many bytes (0 of a file read), the answer's word. Then the numbers lent and the
 //! bytes after the call; or the bytes of the file and the numbers after the call. Bytes end on a whole word, zeros behind them.
-ghost use Rattle.std.specs.Prelude.{◌≡◌, ◌≤◌, length};
-ghost use Rattle.recorded.specs.Words.{record_bytes};
+use crate::compared::Compared;
+use recorded::words::{RECORD, at_most, differ, load, word};
 
-use recorded::words::{at_most, differ, load, word};
+pub struct Files;
 
 // Where the words that follow begin, and how many there are at most.
-pub const NUMBERS: usize = 64;
+const NUMBERS: usize = 64;
 
-pub const MOST: usize = 185;
+const MOST: usize = 185;
 
 const MOST_BYTES: usize = 1480;
 
@@ -20,19 +20,14 @@ const BYTE: u8 = 0xa5;
 const NUMBER: f64 = -0.5;
 
 // Whether the writer says so and leaves these bytes.
-fn leaves(bytes: &[u8], numbers: &[f64], file: &mut [u8], words: &[u8]) -> bool {
+fn leaves(bytes: &[u8; RECORD], numbers: &[f64], file: &mut [u8], words: &[u8]) -> bool {
     let count = word(bytes, 16);
     let start = word(bytes, 24);
     let code = word(bytes, 32);
-    if capi::geomcore_write_v1(numbers, count, start, code, file) != word(bytes, 56) {
-        return false;
-    }
-    *file == *words
+    capi::geomcore_write_v1(numbers, count, start, code, file) == word(bytes, 56) && *file == *words
 }
 
-fn same_written(bytes: &[u8]) -> bool
-    requires { length bytes.now ≡ record_bytes }
-{
+fn same_written(bytes: &[u8; RECORD]) -> bool {
     let lent = at_most(word(bytes, 40), MOST);
     let after = NUMBERS + 8 * lent;
     let room = at_most(word(bytes, 48), MOST_BYTES - 8 * lent);
@@ -49,18 +44,13 @@ fn same_written(bytes: &[u8]) -> bool
 
 // Whether the reader says so and leaves these numbers.
 fn gives(file: &[u8], numbers: &mut [f64], said: u64, words: &[u8]) -> bool {
-    if capi::geomcore_read_v1(file, numbers) != said {
-        return false;
-    }
-    !differ(words, &*numbers)
+    capi::geomcore_read_v1(file, numbers) == said && !differ(words, numbers)
 }
 
-fn same_read(bytes: &[u8]) -> bool
-    requires { length bytes.now ≡ record_bytes }
-{
+fn same_read(bytes: &[u8; RECORD]) -> bool {
     let size = at_most(word(bytes, 16), MOST_BYTES);
     let end = NUMBERS + size;
-    let after = NUMBERS + 8 * ((size + 7) / 8);
+    let after = NUMBERS + size.next_multiple_of(8);
     let lent = at_most(word(bytes, 24), MOST);
     let mut numbers = [NUMBER; MOST];
     gives(
@@ -71,12 +61,22 @@ fn same_read(bytes: &[u8]) -> bool
     )
 }
 
-pub fn same(bytes: &[u8]) -> bool
-    requires { length bytes.now ≡ record_bytes }
-{
-    if word(bytes, 0) == 0 {
-        same_written(bytes)
-    } else {
-        same_read(bytes)
+impl Compared for Files {
+    const NAME: &'static str = "trace files";
+
+    fn size() -> usize {
+        NUMBERS
+    }
+
+    fn numbers(bytes: &[u8; RECORD]) -> usize {
+        at_most(word(bytes, 8), MOST)
+    }
+
+    fn same(bytes: &[u8; RECORD]) -> bool {
+        if word(bytes, 0) == 0 {
+            same_written(bytes)
+        } else {
+            same_read(bytes)
+        }
     }
 }
