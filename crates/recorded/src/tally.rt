@@ -1,28 +1,29 @@
 //! What a replay counts, and the text that says it.
-ghost use Rattle.std.specs.Prelude.{◌≡◌, Some};
+ghost use Rattle.std.specs.Prelude.{◌≡◌, None, Some};
 ghost use Rattle.recorded.specs.Marked.{in_reach_of, beyond_of};
 ghost use Rattle.recorded.specs.Tally.{counted_of, said_of};
 
 use std::fmt;
 
 // Stands for StrictMath's answer where an angle is beyond reach: our sine and cosine are NaN there.
+// Kept (1): a word of the recorded list, and the answers beside it are words too.
 const BEYOND: u64 = 0x7ff8_0000_0000_0001;
 
 // Every NaN has one pattern.
 const NAN: u64 = 0x7ff8_0000_0000_0000;
 
-// How many records were compared, how many of them differ, and which was the first that did (from 0).
+// How many records were compared, how many of them differ, and which was the first that did (from 0), if any.
 #[derive(Clone, Copy, Default)]
 pub struct Tally {
     pub compared: u64,
     pub differ: u64,
-    pub first: u64,
+    pub first: Option<u64>,
 }
 
 impl Tally {
     // Nothing compared yet.
     pub fn new() -> Tally
-        ensures { result ≡ record { compared = 0; differ = 0; first = 0 } }
+        ensures { result ≡ record { compared = 0; differ = 0; first = None } }
     {
         Tally::default()
     }
@@ -35,18 +36,10 @@ impl Tally {
         if same {
             return Tally { compared, ..self };
         }
-        let differ = self.differ.wrapping_add(1);
-        if self.differ == 0 {
-            return Tally {
-                compared,
-                differ,
-                first: self.compared,
-            };
-        }
         Tally {
             compared,
-            differ,
-            ..self
+            differ: self.differ.wrapping_add(1),
+            first: self.first.or(Some(self.compared)),
         }
     }
 
@@ -83,9 +76,9 @@ impl fmt::Display for Tally {
             first,
         } = *self;
         write!(f, "{compared} compared, {differ} differ")?;
-        if differ == 0 {
-            return Ok(());
+        match first {
+            None => Ok(()),
+            Some(first) => write!(f, ", the first at {first}"),
         }
-        write!(f, ", the first at {first}")
     }
 }

@@ -17,8 +17,8 @@ impl Compared for Checks {
         NUMBERS
     }
 
-    fn numbers(bytes: &[u8; RECORD]) -> usize {
-        at_most(word(bytes, 8), MOST)
+    fn most() -> usize {
+        MOST
     }
 
     fn same(bytes: &[u8; RECORD]) -> bool {

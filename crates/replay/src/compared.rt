@@ -2,7 +2,7 @@
 ghost use Rattle.std.specs.Prelude.{◌≤◌};
 
 use recorded::tally::Tally;
-use recorded::words::{RECORD, next};
+use recorded::words::{RECORD, at_most, next, word};
 use std::io;
 use std::io::{Read, Write};
 
@@ -14,8 +14,8 @@ pub trait Compared {
     fn size() -> usize
         ensures { result ≤ 960 };
 
-    // How many numbers stand behind them.
-    fn numbers(_bytes: &[u8; RECORD]) -> usize
+    // How many numbers stand behind them at most; the second word says how many.
+    fn most() -> usize
         ensures { result ≤ 185 }
     {
         0
@@ -48,6 +48,6 @@ fn read<K: Compared, R: Read>(input: &mut R, bytes: &mut [u8; RECORD]) -> io::Re
     if !next(input, &mut bytes[..start])? {
         return Ok(false);
     }
-    let end = start + 8 * K::numbers(bytes);
+    let end = start + 8 * at_most(word(bytes, 8), K::most());
     next(input, &mut bytes[start..end])
 }

@@ -20,45 +20,30 @@ const BYTE: u8 = 0xa5;
 const NUMBER: f64 = -0.5;
 
 // Whether the writer says so and leaves these bytes.
-fn leaves(bytes: &[u8; RECORD], numbers: &[f64], file: &mut [u8], words: &[u8]) -> bool {
-    let count = word(bytes, 16);
-    let start = word(bytes, 24);
-    let code = word(bytes, 32);
-    capi::geomcore_write_v1(numbers, count, start, code, file) == word(bytes, 56) && *file == *words
-}
-
 fn same_written(bytes: &[u8; RECORD]) -> bool {
     let lent = at_most(word(bytes, 40), MOST);
-    let after = NUMBERS + 8 * lent;
     let room = at_most(word(bytes, 48), MOST_BYTES - 8 * lent);
+    let after = NUMBERS + 8 * lent;
+    let words = &bytes[after..after + room];
     let mut numbers = [0.0; MOST];
     load(&bytes[NUMBERS..], &mut numbers);
     let mut file = [BYTE; MOST_BYTES];
-    leaves(
-        bytes,
-        &numbers[0..lent],
-        &mut file[0..room],
-        &bytes[after..after + room],
-    )
+    let file = &mut file[..room];
+    let count = word(bytes, 16);
+    let start = word(bytes, 24);
+    let code = word(bytes, 32);
+    capi::geomcore_write_v1(&numbers[..lent], count, start, code, file) == word(bytes, 56)
+        && *file == *words
 }
 
 // Whether the reader says so and leaves these numbers.
-fn gives(file: &[u8], numbers: &mut [f64], said: u64, words: &[u8]) -> bool {
-    capi::geomcore_read_v1(file, numbers) == said && !differ(words, numbers)
-}
-
 fn same_read(bytes: &[u8; RECORD]) -> bool {
     let size = at_most(word(bytes, 16), MOST_BYTES);
-    let end = NUMBERS + size;
     let after = NUMBERS + size.next_multiple_of(8);
-    let lent = at_most(word(bytes, 24), MOST);
     let mut numbers = [NUMBER; MOST];
-    gives(
-        &bytes[NUMBERS..end],
-        &mut numbers[0..lent],
-        word(bytes, 56),
-        &bytes[after..],
-    )
+    let lent = &mut numbers[..at_most(word(bytes, 24), MOST)];
+    capi::geomcore_read_v1(&bytes[NUMBERS..NUMBERS + size], lent) == word(bytes, 56)
+        && !differ(&bytes[after..], lent)
 }
 
 impl Compared for Files {
@@ -68,8 +53,8 @@ impl Compared for Files {
         NUMBERS
     }
 
-    fn numbers(bytes: &[u8; RECORD]) -> usize {
-        at_most(word(bytes, 8), MOST)
+    fn most() -> usize {
+        MOST
     }
 
     fn same(bytes: &[u8; RECORD]) -> bool {

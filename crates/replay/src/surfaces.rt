@@ -8,6 +8,7 @@ use recorded::words::{RECORD, differ, load, word};
 
 pub struct Surfaces;
 
+// Kept (1): what is asked is a word of the record, and the other two go to the probe as they stand.
 const PUBLIC_POINT: u64 = 2;
 
 // Where the sizes begin, among a surface's 146 bytes, that a kind has not.

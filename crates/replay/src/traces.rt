@@ -21,11 +21,6 @@ fn filled() -> [f64; MOST] {
     buffer
 }
 
-// Whether the call says so and leaves these numbers in the buffer lent.
-fn leaves(job: &[u8], lent: &mut [f64], said: u64, words: &[u8]) -> bool {
-    capi::geomcore_trace(job, lent) == said && !differ(words, lent)
-}
-
 impl Compared for Traces {
     const NAME: &'static str = "traces";
 
@@ -33,19 +28,15 @@ impl Compared for Traces {
         NUMBERS
     }
 
-    fn numbers(bytes: &[u8; RECORD]) -> usize {
-        at_most(word(bytes, 8), MOST)
+    fn most() -> usize {
+        MOST
     }
 
     fn same(bytes: &[u8; RECORD]) -> bool {
         let end = 24 + at_most(word(bytes, 0), 352);
-        let lent = at_most(word(bytes, 8), MOST);
         let mut buffer = filled();
-        leaves(
-            &bytes[24..end],
-            &mut buffer[0..lent],
-            word(bytes, 16),
-            &bytes[NUMBERS..],
-        )
+        let lent = &mut buffer[..at_most(word(bytes, 8), MOST)];
+        capi::geomcore_trace(&bytes[24..end], lent) == word(bytes, 16)
+            && !differ(&bytes[NUMBERS..], lent)
     }
 }
