@@ -50,6 +50,7 @@ impl Tallies {
 }
 
 // A list of so many records, or as many as there are.
+// Kept (2): the loop of `Compared::replay`, round records of one length; what is done with a record and what stays of it differ.
 pub fn replay<R: Read, W: Write>(records: u64, input: &mut R, output: &mut W) -> io::Result<()> {
     let mut tallies = Tallies::default();
     for _ in 0..records {

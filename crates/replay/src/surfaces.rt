@@ -12,7 +12,7 @@ pub struct Surfaces;
 const PUBLIC_POINT: u64 = 2;
 
 // Where the sizes begin, among a surface's 146 bytes, that a kind has not.
-// Kept (1): the kind is the byte of the job file, which the record holds as a word, above 4 too; nothing else is asked of it.
+// Kept (1): the kind is a word of the record, which goes on as a number, to the probe and into the surface's bytes.
 fn unused(kind: u64) -> usize
     ensures { (98 ≤ result) × (result ≤ 114) }
 {
