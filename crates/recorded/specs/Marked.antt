@@ -10,9 +10,9 @@ abbrev pub mark : ℕ
 mark = 0x7ff8000000000001
 
 -- an answer in reach is compared in bits
-unfoldable pub in_reach_of : Tally → Float → ℕ → Tally
+abbrev pub in_reach_of : Tally → Float → ℕ → Tally
 in_reach_of t got expected = pick (expected == mark) t (counted_of t (to_bits binary64 got == expected))
 
 -- an answer beyond reach is compared with a NaN
-unfoldable pub beyond_of : Tally → Float → ℕ → Tally
+abbrev pub beyond_of : Tally → Float → ℕ → Tally
 beyond_of t got expected = pick (expected == mark) (counted_of t (to_bits binary64 got == 0x7ff8000000000000)) t

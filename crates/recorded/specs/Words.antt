@@ -6,10 +6,6 @@ use Rattle.loops.specs.Any.{any_in}
 use Rattle.number.specs.Operators.{bits}
 use Rattle.wire.specs.Wire.{eight_at}
 
--- room for a record of any kind: 960 bytes, and 185 numbers behind them
-abbrev pub record_bytes : ℕ
-record_bytes = 2440
-
 -- the eight bytes from `at` on, or 0 where there are fewer
 abbrev pub word_at : List ℕ → ℕ → ℕ
 word_at s at = cond (nat_le (at + 8) (length s)) (eight_at s at) 0

@@ -16,13 +16,8 @@ pub fn next<R: Read>(input: &mut R, bytes: &mut [u8]) -> io::Result<bool>
 {
     match input.read_exact(bytes) {
         Ok(()) => Ok(true),
-        Err(e) => {
-            if e.kind() == ErrorKind::UnexpectedEof {
-                Ok(false)
-            } else {
-                Err(e)
-            }
-        }
+        Err(e) if e.kind() == ErrorKind::UnexpectedEof => Ok(false),
+        Err(e) => Err(e),
     }
 }
 
@@ -43,15 +38,15 @@ pub fn word(bytes: &[u8], at: usize) -> u64
 pub fn at_most(x: u64, most: usize) -> usize
     ensures { (result ≡ at_most_of x most) × (result ≤ most) }
 {
-    if x < most as u64 { x as usize } else { most }
+    x.min(most as u64) as usize
 }
 
 // Fills the numbers with those of the words, from the first on.
 pub fn load(words: &[u8], numbers: &mut [f64])
     ensures { numbers.new ≡ loaded_of words.now numbers.old }
 {
-    for k in 0..numbers.len() {
-        numbers[k] = number::from_bits(word(words, 8 * k));
+    for (k, x) in numbers.iter_mut().enumerate() {
+        *x = number::from_bits(word(words, 8 * k));
     }
 }
 
@@ -59,10 +54,8 @@ pub fn load(words: &[u8], numbers: &mut [f64])
 pub fn differ(words: &[u8], numbers: &[f64]) -> bool
     ensures { result ≡ differ_of words.now numbers.now }
 {
-    for k in 0..numbers.len() {
-        if number::to_bits(numbers[k]) != word(words, 8 * k) {
-            return true;
-        }
-    }
-    false
+    numbers
+        .iter()
+        .enumerate()
+        .any(|(k, x)| number::to_bits(*x) != word(words, 8 * k))
 }

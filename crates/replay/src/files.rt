@@ -2,15 +2,15 @@
 //! done (0 written, 1 read), how many words follow, the count (of a file read, how many bytes it has), the start's index (how many numbers
 //! are lent), the code, how many numbers are lent, how many bytes (0 of a file read), the answer's word. Then the numbers lent and the
 //! bytes after the call; or the bytes of the file and the numbers after the call. Bytes end on a whole word, zeros behind them.
-ghost use Rattle.std.specs.Prelude.{◌≡◌, ◌≤◌, length};
-ghost use Rattle.recorded.specs.Words.{record_bytes};
+use crate::compared::Compared;
+use recorded::words::{RECORD, at_most, differ, load, word};
 
-use recorded::words::{at_most, differ, load, word};
+pub struct Files;
 
 // Where the words that follow begin, and how many there are at most.
-pub const NUMBERS: usize = 64;
+const NUMBERS: usize = 64;
 
-pub const MOST: usize = 185;
+const MOST: usize = 185;
 
 const MOST_BYTES: usize = 1480;
 
@@ -20,63 +20,48 @@ const BYTE: u8 = 0xa5;
 const NUMBER: f64 = -0.5;
 
 // Whether the writer says so and leaves these bytes.
-fn leaves(bytes: &[u8], numbers: &[f64], file: &mut [u8], words: &[u8]) -> bool {
-    let count = word(bytes, 16);
-    let start = word(bytes, 24);
-    let code = word(bytes, 32);
-    if capi::geomcore_write_v1(numbers, count, start, code, file) != word(bytes, 56) {
-        return false;
-    }
-    *file == *words
-}
-
-fn same_written(bytes: &[u8]) -> bool
-    requires { length bytes.now ≡ record_bytes }
-{
+fn same_written(bytes: &[u8; RECORD]) -> bool {
     let lent = at_most(word(bytes, 40), MOST);
-    let after = NUMBERS + 8 * lent;
     let room = at_most(word(bytes, 48), MOST_BYTES - 8 * lent);
+    let after = NUMBERS + 8 * lent;
+    let words = &bytes[after..after + room];
     let mut numbers = [0.0; MOST];
     load(&bytes[NUMBERS..], &mut numbers);
     let mut file = [BYTE; MOST_BYTES];
-    leaves(
-        bytes,
-        &numbers[0..lent],
-        &mut file[0..room],
-        &bytes[after..after + room],
-    )
+    let file = &mut file[..room];
+    let count = word(bytes, 16);
+    let start = word(bytes, 24);
+    let code = word(bytes, 32);
+    capi::geomcore_write_v1(&numbers[..lent], count, start, code, file) == word(bytes, 56)
+        && *file == *words
 }
 
 // Whether the reader says so and leaves these numbers.
-fn gives(file: &[u8], numbers: &mut [f64], said: u64, words: &[u8]) -> bool {
-    if capi::geomcore_read_v1(file, numbers) != said {
-        return false;
-    }
-    !differ(words, &*numbers)
-}
-
-fn same_read(bytes: &[u8]) -> bool
-    requires { length bytes.now ≡ record_bytes }
-{
+fn same_read(bytes: &[u8; RECORD]) -> bool {
     let size = at_most(word(bytes, 16), MOST_BYTES);
-    let end = NUMBERS + size;
-    let after = NUMBERS + 8 * ((size + 7) / 8);
-    let lent = at_most(word(bytes, 24), MOST);
+    let after = NUMBERS + size.next_multiple_of(8);
     let mut numbers = [NUMBER; MOST];
-    gives(
-        &bytes[NUMBERS..end],
-        &mut numbers[0..lent],
-        word(bytes, 56),
-        &bytes[after..],
-    )
+    let lent = &mut numbers[..at_most(word(bytes, 24), MOST)];
+    capi::geomcore_read_v1(&bytes[NUMBERS..NUMBERS + size], lent) == word(bytes, 56)
+        && !differ(&bytes[after..], lent)
 }
 
-pub fn same(bytes: &[u8]) -> bool
-    requires { length bytes.now ≡ record_bytes }
-{
-    if word(bytes, 0) == 0 {
-        same_written(bytes)
-    } else {
-        same_read(bytes)
+impl Compared for Files {
+    const NAME: &'static str = "trace files";
+
+    fn size() -> usize {
+        NUMBERS
+    }
+
+    fn most() -> usize {
+        MOST
+    }
+
+    fn same(bytes: &[u8; RECORD]) -> bool {
+        if word(bytes, 0) == 0 {
+            same_written(bytes)
+        } else {
+            same_read(bytes)
+        }
     }
 }

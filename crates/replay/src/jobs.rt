@@ -1,18 +1,28 @@
 //! Inputs of the job program, made by `tools/list_job.py`: 402 bytes, a 2-byte length, big-endian, then as many bytes of input, and zeros
 //! behind. The lines are written whole.
-ghost use Rattle.std.specs.Prelude.{◌≡◌, length};
-ghost use Rattle.recorded.specs.Words.{record_bytes};
-
-use recorded::words::at_most;
+use recorded::words::{at_most, next};
 use std::io;
-use std::io::Write;
+use std::io::{Read, Write};
+
+const SIZE: usize = 402;
 
 // Writes the line of an input.
-pub fn written<W: Write>(bytes: &[u8], output: &mut W) -> io::Result<()>
-    requires { length bytes.now ≡ record_bytes }
-{
+fn written<W: Write>(bytes: &[u8; SIZE], output: &mut W) -> io::Result<()> {
     let end = 2 + at_most(wire::two(bytes, 0), 400);
     let mut line = [0u8; answer::line::LINE];
     let count = answer::answer(&bytes[2..end], &mut line);
     output.write_all(&line[..count])
+}
+
+// A list of so many records, or as many as there are.
+// Kept (2): the loop of `Compared::replay`, round records of one length; what is done with a record and what stays of it differ.
+pub fn replay<R: Read, W: Write>(records: u64, input: &mut R, output: &mut W) -> io::Result<()> {
+    for _ in 0..records {
+        let mut bytes = [0u8; SIZE];
+        if !next(input, &mut bytes)? {
+            break;
+        }
+        written(&bytes, output)?;
+    }
+    Ok(())
 }

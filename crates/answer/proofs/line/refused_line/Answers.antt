@@ -1,12 +1,14 @@
-use mathlib.Core.List.{◌++◌}
-use Rattle.answer.specs.Line.{decimal_of, refused_word, newline}
-use Rattle.answer.proofs.Text.{text_first, text_next, refused_line_is}
+use mathlib.Core.Path.{◌≡◌, ap, ◌∙◌}
+use mathlib.Core.List.{List, append_assoc}
+use Prim.Native.Nat.{ℕ}
+use lib.ListN.{length}
+use Rattle.loops.specs.Over.{written}
+use Rattle.answer.specs.Line.{refused_line}
 use Rattle.answer.proofs.line.refused_line.Goals as goal
 
 pub returns : goal.returns
+unfolding refused_line
 returns c =
-    let n = c.args.number in
-    let t1 = text_first refused_word _ _ _ c.append-a.ensures.0 c.append-a.ensures.1 in
-    let t2 = text_next refused_word (decimal_of n) _ _ _ _ _ t1 c.append_number-b.ensures.0 c.append_number-b.ensures.1 in
-    let t3 = text_next (refused_word ++ decimal_of n) newline _ _ _ _ _ t2 c.append.ensures.0 c.append.ensures.1 in
-    rw (← refused_line_is n) t3
+    let e : c.push_str-2.new.self.bytes ≡ refused_line c.args.number =
+    rw (c.push_str-2.ensures.bytes, c.push_number.ensures.text, c.push_str.ensures.bytes, c.new-refusal.ensures) (simp append_assoc) in
+    (c.put.ensures.count ∙ ap length e, c.put.ensures.line ∙ ap (λ (t : List ℕ). written t c.args.line.now) e)

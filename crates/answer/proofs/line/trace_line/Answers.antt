@@ -1,19 +1,24 @@
-use mathlib.Core.List.{◌++◌}
-use Rattle.answer.specs.Line.{decimal_of, trace_word, space, newline}
-use Rattle.answer.proofs.Text.{text_first, text_next, trace_line_is}
+use mathlib.Core.Path.{◌≡◌, ap, ◌∙◌}
+use mathlib.Core.List.{List, append_assoc}
+use Prim.Native.Nat.{ℕ}
+use lib.ListN.{length}
+use Rattle.loops.specs.Over.{written}
+use Rattle.answer.specs.Line.{trace_line}
 use Rattle.answer.proofs.line.trace_line.Goals as goal
 
 pub returns : goal.returns
+unfolding trace_line
 returns c =
     let a = c.args in
-    let w2 = trace_word ++ decimal_of a.count in
-    let w4 = w2 ++ space ++ decimal_of a.start in
-    let w6 = w4 ++ space ++ decimal_of a.code in
-    let t1 = text_first trace_word _ _ _ c.append-a.ensures.0 c.append-a.ensures.1 in
-    let t2 = text_next trace_word (decimal_of a.count) _ _ _ _ _ t1 c.append_number-b.ensures.0 c.append_number-b.ensures.1 in
-    let t3 = text_next w2 space _ _ _ _ _ t2 c.append-c.ensures.0 c.append-c.ensures.1 in
-    let t4 = text_next (w2 ++ space) (decimal_of a.start) _ _ _ _ _ t3 c.append_number-d.ensures.0 c.append_number-d.ensures.1 in
-    let t5 = text_next w4 space _ _ _ _ _ t4 c.append-e.ensures.0 c.append-e.ensures.1 in
-    let t6 = text_next (w4 ++ space) (decimal_of a.code) _ _ _ _ _ t5 c.append_number-f.ensures.0 c.append_number-f.ensures.1 in
-    let t7 = text_next w6 newline _ _ _ _ _ t6 c.append.ensures.0 c.append.ensures.1 in
-    rw (← trace_line_is a.count a.start a.code) t7
+    let e : c.push_str-4.new.self.bytes ≡ trace_line a.count a.start a.code =
+    rw (
+      c.push_str-4.ensures.bytes,
+      c.push_number-3.ensures.text,
+      c.push_str-3.ensures.bytes,
+      c.push_number-2.ensures.text,
+      c.push_str-2.ensures.bytes,
+      c.push_number.ensures.text,
+      c.push_str.ensures.bytes,
+      c.new-trace.ensures,
+    ) (simp append_assoc) in
+    (c.put.ensures.count ∙ ap length e, c.put.ensures.line ∙ ap (λ (t : List ℕ). written t c.args.line.now) e)

@@ -4,5 +4,5 @@ use Rattle.recorded.proofs.words.next.Goals as goal
 pub returns-in-Ok : goal.returns-in-Ok
 returns-in-Ok g c = c.in-Ok.ensures.bytes
 
-pub returns-then-eq : goal.returns-then-eq
-returns-then-eq g c = tt
+pub returns-in-Err : goal.returns-in-Err
+returns-in-Err g c = tt

@@ -1,0 +1,33 @@
+//! The kinds of lists, by the numbers that head them.
+
+pub enum Kind {
+    Roots,
+    Tolerances,
+    StrictMath,
+    Systems,
+    Surfaces,
+    Crossings,
+    Steps,
+    Jobs,
+    Traces,
+    Checks,
+    Files,
+}
+
+impl From<u64> for Kind {
+    fn from(number: u64) -> Kind {
+        match number {
+            0 => Kind::Roots,
+            1 => Kind::Tolerances,
+            2 => Kind::StrictMath,
+            3 => Kind::Systems,
+            4 => Kind::Surfaces,
+            5 => Kind::Crossings,
+            6 => Kind::Steps,
+            7 => Kind::Jobs,
+            8 => Kind::Traces,
+            9 => Kind::Checks,
+            _ => Kind::Files,
+        }
+    }
+}
