@@ -3,6 +3,7 @@ ghost use Rattle.std.specs.Prelude.{◌≡◌};
 ghost use Rattle.step.specs.Attempt.{kept_of, landing_kept, turn_of, near_curve, smooth_of, accepted_of, onward_of, inner_of, landed_of, attempt_of};
 
 use geometry::point::LONGEST_CHORD;
+use geometry::tolerance::CHORD_DEVIATION;
 use geometry::{Point3D, Tolerance, Vector3D};
 use marching::Exit;
 use marching::leaving::leaving;
@@ -11,9 +12,6 @@ use meeting::Met;
 use meeting::newton::{land, meet_in_plane};
 use patch::{Parameters, Patch};
 use tangent::{Direction, tangent};
-
-// Chord deviation allowed per step, in multiples of confusion.
-pub const CHORD_DEVIATION: f64 = 1000.0;
 
 // How far a step may turn freely, and how much it may turn beside the last one's curvature.
 const FREE_TURN: f64 = 0.05;

@@ -2,9 +2,9 @@
 ghost use Rattle.std.specs.Prelude.{◌≡◌};
 ghost use Rattle.step.specs.Closing.{along_of, closes_of, first_stride, next_stride};
 
-use crate::attempt::CHORD_DEVIATION;
 use crate::shorten::H_MAX;
 use geometry::Point3D;
+use geometry::tolerance::CHORD_DEVIATION;
 
 // A chord of length h deviates from its curve by h * h * curvature / 8.
 const SAGITTA: f64 = 8.0;

@@ -17,5 +17,5 @@ unfolding segment_meets_box
 returns c =
     let p = c.args.p in let q = c.args.q in let b = c.args.b in
     let joined : is_some (clip_of p.z (q.z ⊖ p.z) b.low.z b.high.z c.in-Some-clip.y) ≡ segment_meets_box p q b =
-        rw (← c.clip.ensures, c.in-Some.is, ← c.clip-2.ensures, c.in-Some-clip.is) in
+    rw (← c.clip.ensures, c.in-Some.is, ← c.clip-2.ensures, c.in-Some-clip.is) in
     c.is_some.ensures ∙ ap is_some c.clip-3.ensures ∙ joined
