@@ -50,7 +50,7 @@ fn landing_kept(w: Walker, h: f64, q: Point3D) -> bool
 {
     let p = w.p;
     let t = w.t;
-    0.0 <= q.sub(p).dot(t) && kept(q.distance(p), h)
+    0.0 <= (q - p).dot(t) && kept(q.distance(p), h)
 }
 
 // A point on the window's edge that the stride would overstep.
@@ -143,7 +143,7 @@ fn inner(
 {
     let p = w.p;
     let t = w.t;
-    let met = meet_in_plane(a, b, guess, p.add(t.scale(h)), t, tol);
+    let met = meet_in_plane(a, b, guess, p + t * h, t, tol);
     let Met::At(y) = met else {
         return Stride::Nothing;
     };
@@ -153,7 +153,7 @@ fn inner(
     };
     let surface = a.surface;
     let q = surface.eval_point(y.u1, y.v1);
-    onward(tol.confusion, w, h, y, q, d.scale(dir))
+    onward(tol.confusion, w, h, y, q, d * dir)
 }
 
 // What the stride of length h leads to.
@@ -162,7 +162,7 @@ pub(crate) fn attempt(a: Patch, b: Patch, tol: Tolerance, dir: f64, w: Walker, h
 {
     let x = w.x;
     let t = w.t;
-    let guess = predict(a, b, x, t.scale(h));
+    let guess = predict(a, b, x, t * h);
     let exit = leaving(a, b, x, guess);
     match exit {
         Exit::Nowhere => inner(a, b, tol, dir, w, h, guess),

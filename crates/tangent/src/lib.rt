@@ -65,7 +65,7 @@ fn unit_cross(na: Vector3D, nb: Vector3D, angular: f64) -> Direction
     if parallel(na.dot(na), nb.dot(nb), length, angular) {
         Direction::Missing
     } else {
-        Direction::Along(t.scale(1.0 / length))
+        Direction::Along(t * (1.0 / length))
     }
 }
 
