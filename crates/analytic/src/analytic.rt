@@ -17,7 +17,7 @@ pub struct Derivatives {
 fn combination(a: f64, p: Vector3D, b: f64, q: Vector3D) -> Vector3D
     ensures { result ≡ combination_of a p b q }
 {
-    p.scale(a).add(q.scale(b))
+    a * p + b * q
 }
 
 pub(crate) fn plane_d0(frame: Frame3D, u: f64, v: f64) -> Point3D
@@ -102,7 +102,7 @@ pub(crate) fn sphere_derivatives(frame: Frame3D, r: f64, u: f64, v: f64) -> Deri
     let su = fdlibm::sin_cos(u, &mut cu);
     let rcv = r * cv;
     Derivatives {
-        u: combination(-su, frame.x, cu, frame.y).scale(rcv),
+        u: rcv * combination(-su, frame.x, cu, frame.y),
         v: combination(-r * sv, combination(cu, frame.x, su, frame.y), rcv, frame.z),
     }
 }
@@ -127,7 +127,7 @@ pub(crate) fn torus_derivatives(frame: Frame3D, maj: f64, min: f64, u: f64, v: f
     let su = fdlibm::sin_cos(u, &mut cu);
     let r = maj + min * cv;
     Derivatives {
-        u: combination(-su, frame.x, cu, frame.y).scale(r),
+        u: r * combination(-su, frame.x, cu, frame.y),
         v: combination(
             -min * sv,
             combination(cu, frame.x, su, frame.y),

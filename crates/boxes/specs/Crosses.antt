@@ -6,13 +6,14 @@ use Rattle.number.specs.Operators.{bits, ◌⊕◌, ◌⊖◌, ◌⊗◌}
 use Rattle.groups.specs.Groups.{width, from_group}
 use Rattle.groups.specs.Row.{point_at}
 use Rattle.geometry.specs.Point.{point_of}
+use Rattle.geometry.specs.Tolerance.{chord_multiple}
 use Rattle.boxes.specs.declared.boxtree.Aabb.{Aabb}
 use Rattle.boxes.specs.Bounds.{boxes_apart, bounds_of}
 use Rattle.boxes.specs.Segment.{segment_meets_box}
 
--- "8000 times confusion": 8.0 * 1000.0 * confusion
+-- "8000 times confusion": 8.0 * CHORD_DEVIATION * confusion
 abbrev pub gap_of : Float → Float
-gap_of confusion = bits 0x4020_0000_0000_0000 ⊗ bits 0x408f_4000_0000_0000 ⊗ confusion
+gap_of confusion = bits 0x4020_0000_0000_0000 ⊗ chord_multiple ⊗ confusion
 
 -- "grow the box": low sides less the gap, high sides and the gap
 unfoldable pub grown_of : Aabb → Float → Aabb

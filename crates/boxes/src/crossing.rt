@@ -23,6 +23,7 @@ fn box_fit(b: Aabb) -> bool
 }
 
 // Whether refusal 18 stops one of the points.
+// Kept (6): the count is the caller's claim, as in `marching::crosses`.
 fn some_unfit(points: &[f64], count: usize) -> bool
     requires { width * count ≤ length points.now }
     ensures { result ≡ some_unfit points.now count }

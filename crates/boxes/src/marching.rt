@@ -6,14 +6,12 @@ ghost use Rattle.boxes.specs.Crosses.{grown_of, some_segment, run_crosses, some_
 use crate::boxtree::Aabb;
 use crate::{boxtree, pieces};
 use geometry::Point3D;
+use geometry::tolerance::CHORD_DEVIATION;
 use groups::WIDTH;
 use groups::row::{point_from, rows};
 
 // Segments of a trace per box of a run.
 const RUN: usize = 16;
-
-// Chord deviation allowed per traced step, in multiples of confusion.
-const CHORD_DEVIATION: f64 = 1000.0;
 
 // The fractions of a segment that are inside the slabs looked at so far.
 #[derive(Clone, Copy)]
@@ -81,11 +79,11 @@ fn run_crosses(points: &[f64], b: Aabb) -> bool
 }
 
 // Each run is handed on as the part of the trace from its first point: 17 points of it, or what is left.
+// Kept (3): a run ends where the next one begins, so the runs are no chunks of the list.
 fn some_run(points: &[f64], b: Aabb) -> bool
-    requires { width ≤ length points.now }
     ensures { result ≡ some_run points.now (length points.now / width) b }
 {
-    let segments = points.len() / WIDTH - 1;
+    let segments = (points.len() / WIDTH).saturating_sub(1);
     for first in (0..segments).step_by(RUN) {
         let part = &points[WIDTH * first..];
         let run = &part[..part.len().min(WIDTH * (RUN + 1))];
@@ -101,15 +99,14 @@ fn grown(b: Aabb, confusion: f64) -> Aabb
     ensures { result ≡ grown_of b confusion }
 {
     let gap = 8.0 * CHORD_DEVIATION * confusion;
-    let low = b.low;
-    let high = b.high;
     Aabb {
-        low: Point3D::new(low.x - gap, low.y - gap, low.z - gap),
-        high: Point3D::new(high.x + gap, high.y + gap, high.z + gap),
+        low: Point3D::new(b.low.x - gap, b.low.y - gap, b.low.z - gap),
+        high: Point3D::new(b.high.x + gap, b.high.y + gap, b.high.z + gap),
     }
 }
 
 // Whether the trace passes through the grown box.
+// Kept (6): the count is the caller's claim, to which the list is cut here; inside it goes with no list.
 pub(crate) fn crosses(points: &[f64], count: usize, b: Aabb, confusion: f64) -> bool
     requires { (0 < count) × (width * count ≤ length points.now) }
     ensures { result ≡ crosses_of points.now count b confusion }

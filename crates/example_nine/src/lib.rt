@@ -17,7 +17,7 @@ fn moved_frame(by: Vector3D) -> Frame3D
 {
     let origin = Point3D::new(0.0, 0.0, 0.0);
     Frame3D {
-        origin: origin.add(by),
+        origin: origin + by,
         x: Vector3D::new(1.0, 0.0, 0.0),
         y: Vector3D::new(0.0, 1.0, 0.0),
         z: Vector3D::new(0.0, 0.0, 1.0),

@@ -12,6 +12,10 @@ default_tolerance = record {
   parametric = bits 0x3E11_2E0B_E826_D695;
 }
 
+-- "sets chord deviation to 1000 times confusion": how many times
+abbrev pub chord_multiple : Float
+chord_multiple = bits 0x408F_4000_0000_0000
+
 -- "2^-40"
 abbrev pub least_confusion : Float
 least_confusion = bits 0x3D70_0000_0000_0000

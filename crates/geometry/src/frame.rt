@@ -18,10 +18,6 @@ impl Frame3D {
     pub fn point_at(self, a: f64, b: f64, c: f64) -> Point3D
         ensures { result ≡ point_at_of self a b c }
     {
-        let origin = self.origin;
-        let x = self.x;
-        let y = self.y;
-        let z = self.z;
-        origin.add(x.scale(a)).add(y.scale(b)).add(z.scale(c))
+        self.origin + self.x * a + self.y * b + self.z * c
     }
 }

@@ -1,6 +1,5 @@
 //! Vectors, tolerances, points and frames by value: what the walk calls of the Rust's vector.rs, tolerance.rs, point.rs and frame.rs, file
-//! by file. Every operation rounds once, in the Rust's order of evaluation. The Rust's operators are methods here: `add` is `+`, `sub` is
-//! `-` between two points.
+//! by file. Every operation rounds once, in the Rust's order of evaluation.
 #![tactic(auto)]
 
 pub mod frame;

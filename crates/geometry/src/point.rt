@@ -3,6 +3,7 @@ ghost use Rattle.number.specs.Operators.{◌≤?◌};
 ghost use Rattle.geometry.specs.Point.{point_of, distance_of, add_vector_of, difference_of, point_fit};
 
 use crate::vector::Vector3D;
+use std::ops::{Add, Sub};
 
 // No chord of a trace is longer, the closing one left out.
 pub const LONGEST_CHORD: f64 = 0.2;
@@ -35,29 +36,7 @@ impl Point3D {
     pub fn within(self, other: Point3D, bound: f64) -> bool
         ensures { result ≡ (distance_of self other ≤? bound) }
     {
-        other.sub(self).magnitude_at_most(bound)
-    }
-
-    // Point + vector.
-    pub fn add(self, vector: Vector3D) -> Point3D
-        ensures { result ≡ add_vector_of self vector }
-    {
-        Point3D {
-            x: self.x + vector.x,
-            y: self.y + vector.y,
-            z: self.z + vector.z,
-        }
-    }
-
-    // Point - point.
-    pub fn sub(self, other: Point3D) -> Vector3D
-        ensures { result ≡ difference_of self other }
-    {
-        Vector3D {
-            x: self.x - other.x,
-            y: self.y - other.y,
-            z: self.z - other.z,
-        }
+        (other - self).magnitude_at_most(bound)
     }
 
     // Every coordinate finite and at most 2^20 in magnitude.
@@ -65,5 +44,35 @@ impl Point3D {
         ensures { result ≡ point_fit self }
     {
         number::number_fit(self.x) && (number::number_fit(self.y) && number::number_fit(self.z))
+    }
+}
+
+// Point + vector.
+impl Add<Vector3D> for Point3D {
+    type Output = Point3D;
+
+    ghost add_gives = { λ p v moved. moved ≡ add_vector_of p v };
+
+    fn add(self, vector: Vector3D) -> Point3D {
+        Point3D {
+            x: self.x + vector.x,
+            y: self.y + vector.y,
+            z: self.z + vector.z,
+        }
+    }
+}
+
+// Point - point.
+impl Sub for Point3D {
+    type Output = Vector3D;
+
+    ghost sub_gives = { λ p q difference. difference ≡ difference_of p q };
+
+    fn sub(self, other: Point3D) -> Vector3D {
+        Vector3D {
+            x: self.x - other.x,
+            y: self.y - other.y,
+            z: self.z - other.z,
+        }
     }
 }

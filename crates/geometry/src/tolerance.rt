@@ -10,6 +10,9 @@ pub struct Tolerance {
     pub parametric: f64,
 }
 
+// Chord deviation allowed per step, in multiples of confusion.
+pub const CHORD_DEVIATION: f64 = 1000.0;
+
 // 2^-40.
 const LEAST_CONFUSION: f64 = 9.094947017729282e-13;
 

@@ -1,8 +1,9 @@
-//! Vectors by value, after the Rust's vector.rs. Every operation rounds once, in the Rust's order of evaluation. The Rust's operators are
-//! methods here: `add` is `+`, `neg` the unary `-`, and `scale` is `*` by a number, on either side.
+//! Vectors by value, after the Rust's vector.rs. Every operation rounds once, in the Rust's order of evaluation.
 ghost use Rattle.std.specs.Prelude.{◌≡◌};
 ghost use Rattle.number.specs.Operators.{◌≤?◌};
-ghost use Rattle.geometry.specs.Vector.{vector_of, dot_of, cross_of, magnitude_of, square_magnitude_of, add_of, neg_of, scale_of};
+ghost use Rattle.geometry.specs.Vector.{vector_of, dot_of, cross_of, magnitude_of, square_magnitude_of, add_of, neg_of, scale_of, times_of};
+
+use std::ops::{Add, Mul, Neg};
 
 #[derive(Clone, Copy)]
 pub struct Vector3D {
@@ -58,34 +59,56 @@ impl Vector3D {
     {
         sqrt::at_most(self.square_magnitude(), bound)
     }
+}
 
-    pub fn add(self, other: Vector3D) -> Vector3D
-        ensures { result ≡ add_of self other }
-    {
+impl Add for Vector3D {
+    type Output = Vector3D;
+
+    ghost add_gives = { λ a b sum. sum ≡ add_of a b };
+
+    fn add(self, other: Vector3D) -> Vector3D {
         Vector3D {
             x: self.x + other.x,
             y: self.y + other.y,
             z: self.z + other.z,
         }
     }
+}
 
-    pub fn neg(self) -> Vector3D
-        ensures { result ≡ neg_of self }
-    {
+impl Neg for Vector3D {
+    type Output = Vector3D;
+
+    ghost neg_gives = { λ a opposite. opposite ≡ neg_of a };
+
+    fn neg(self) -> Vector3D {
         Vector3D {
             x: -self.x,
             y: -self.y,
             z: -self.z,
         }
     }
+}
 
-    pub fn scale(self, scalar: f64) -> Vector3D
-        ensures { result ≡ scale_of self scalar }
-    {
+impl Mul<f64> for Vector3D {
+    type Output = Vector3D;
+
+    ghost mul_gives = { λ a scalar product. product ≡ scale_of a scalar };
+
+    fn mul(self, scalar: f64) -> Vector3D {
         Vector3D {
             x: self.x * scalar,
             y: self.y * scalar,
             z: self.z * scalar,
         }
+    }
+}
+
+impl Mul<Vector3D> for f64 {
+    type Output = Vector3D;
+
+    ghost mul_gives = { λ scalar a product. product ≡ times_of scalar a };
+
+    fn mul(self, vector: Vector3D) -> Vector3D {
+        vector * self
     }
 }

@@ -30,6 +30,7 @@ impl Row {
     };
 
     // The point itself.
+    // Kept (4): `row.point()` is plainer than a conversion, which has to be told its type.
     pub fn point(self) -> Point3D
         ensures { result ≡ point_in self }
     {
@@ -41,6 +42,7 @@ impl Row {
     }
 
     // The numbers in their order.
+    // Kept (4): `row.numbers()` says what it gives, `<[f64; WIDTH]>::from(row)` only of what type.
     pub fn numbers(self) -> [f64; WIDTH]
         ensures { result ≡ numbers_of self }
     {

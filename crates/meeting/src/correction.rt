@@ -48,7 +48,7 @@ fn offset(target: Target, p: Point3D) -> f64
 {
     match target {
         Target::Free => 0.0,
-        Target::Plane { origin, normal } => p.sub(origin).dot(normal),
+        Target::Plane { origin, normal } => (p - origin).dot(normal),
         Target::Pin(_) => 0.0,
     }
 }
@@ -61,7 +61,7 @@ pub(crate) fn residual_at(a: Patch, b: Patch, target: Target, x: Parameters) -> 
     let sb = b.surface;
     let pa = sa.eval_point(x.u1, x.v1);
     let pb = sb.eval_point(x.u2, x.v2);
-    let f = pa.sub(pb);
+    let f = pa - pb;
     let r = offset(target, pa);
     let merit = f.dot(f) + r * r;
     Residual { x, f, r, merit }
@@ -79,8 +79,8 @@ fn jacobian(a: Patch, b: Patch, x: Parameters) -> Columns
     let bv = db.v;
     let c0 = da.u;
     let c1 = da.v;
-    let c2 = bu.neg();
-    let c3 = bv.neg();
+    let c2 = -bu;
+    let c3 = -bv;
     Columns { c0, c1, c2, c3 }
 }
 

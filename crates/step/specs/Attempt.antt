@@ -9,6 +9,7 @@ use Rattle.geometry.specs.declared.point.Point3D.{Point3D}
 use Rattle.geometry.specs.declared.tolerance.Tolerance.{Tolerance}
 use Rattle.geometry.specs.Vector.{dot_of, cross_of, magnitude_of, scale_of}
 use Rattle.geometry.specs.Point.{distance_of, longest_chord, add_vector_of, difference_of}
+use Rattle.geometry.specs.Tolerance.{chord_multiple}
 use Rattle.patch.specs.declared.patch.Patch.{Patch}
 use Rattle.patch.specs.declared.patch.Parameters.{Parameters}
 use Rattle.meeting.specs.declared.newton.Met.{Met}
@@ -33,7 +34,7 @@ curvature_growth = bits 0x4010_0000_0000_0000
 
 -- "`trace` sets chord deviation to 1000 times confusion"
 abbrev pub chord_deviation : Float → Float
-chord_deviation confusion = bits 0x408F_4000_0000_0000 ⊗ confusion
+chord_deviation confusion = chord_multiple ⊗ confusion
 
 -- chord <= 2.0 * h; "A point, landed or not, is kept only if its computed chord from the last is at most 0.2"
 unfoldable pub kept_of : Float → Float → Bool

@@ -3,6 +3,7 @@ ghost use Rattle.std.specs.Prelude.{◌≡◌};
 ghost use Rattle.step.specs.Attempt.{kept_of, landing_kept, turn_of, near_curve, smooth_of, accepted_of, onward_of, inner_of, landed_of, attempt_of};
 
 use geometry::point::LONGEST_CHORD;
+use geometry::tolerance::CHORD_DEVIATION;
 use geometry::{Point3D, Tolerance, Vector3D};
 use marching::leaving::leaving;
 use marching::predict::predict;
@@ -10,9 +11,6 @@ use meeting::Met;
 use meeting::newton::{land, meet_in_plane};
 use patch::{Parameters, Patch};
 use tangent::tangent;
-
-// Chord deviation allowed per step, in multiples of confusion.
-pub const CHORD_DEVIATION: f64 = 1000.0;
 
 // How far a step may turn freely, and how much it may turn beside the last one's curvature.
 const FREE_TURN: f64 = 0.05;
@@ -47,7 +45,7 @@ fn kept(chord: f64, h: f64) -> bool
 fn landing_kept(w: Walker, h: f64, q: Point3D) -> bool
     ensures { result ≡ landing_kept w h q }
 {
-    0.0 <= q.sub(w.p).dot(w.t) && kept(q.distance(w.p), h)
+    0.0 <= (q - w.p).dot(w.t) && kept(q.distance(w.p), h)
 }
 
 // A point on the window's edge that the stride would overstep.
@@ -142,12 +140,12 @@ fn inner(
 ) -> Option<Stride>
     ensures { result ≡ inner_of a b tol dir w h guess }
 {
-    let Met::At(y) = meet_in_plane(a, b, guess, w.p.add(w.t.scale(h)), w.t, tol) else {
+    let Met::At(y) = meet_in_plane(a, b, guess, w.p + w.t * h, w.t, tol) else {
         return None;
     };
     let d = tangent(a, b, y, tol)?;
     let q = a.surface.eval_point(y.u1, y.v1);
-    onward(tol.confusion, w, h, y, q, d.scale(dir))
+    onward(tol.confusion, w, h, y, q, d * dir)
 }
 
 // What the stride of length h leads to.
@@ -161,7 +159,7 @@ pub(crate) fn attempt(
 ) -> Option<Stride>
     ensures { result ≡ attempt_of a b tol dir w h }
 {
-    let guess = predict(a, b, w.x, w.t.scale(h));
+    let guess = predict(a, b, w.x, w.t * h);
     match leaving(a, b, w.x, guess) {
         None => inner(a, b, tol, dir, w, h, guess),
         Some(exit) => landed(a, b, tol, w, h, guess, exit.index, exit.bound),

@@ -2,9 +2,9 @@
 ghost use Rattle.std.specs.Prelude.{◌≡◌};
 ghost use Rattle.step.specs.Closing.{along_of, closes_of, first_stride, next_stride};
 
-use crate::attempt::CHORD_DEVIATION;
 use crate::shorten::H_MAX;
 use geometry::Point3D;
+use geometry::tolerance::CHORD_DEVIATION;
 
 // A chord of length h deviates from its curve by h * h * curvature / 8.
 const SAGITTA: f64 = 8.0;
@@ -13,8 +13,8 @@ const SAGITTA: f64 = 8.0;
 fn along(start: Point3D, p: Point3D, q: Point3D) -> f64
     ensures { result ≡ along_of start p q }
 {
-    let chord = q.sub(p);
-    start.sub(p).dot(chord) / number::max(chord.dot(chord), number::MIN_POSITIVE)
+    let chord = q - p;
+    (start - p).dot(chord) / number::max(chord.dot(chord), number::MIN_POSITIVE)
 }
 
 // Whether the chord from p to q passes the start closely enough.
@@ -24,7 +24,7 @@ pub(crate) fn closes(confusion: f64, start: Point3D, p: Point3D, q: Point3D) -> 
     let s = along(start, p, q);
     0.0 <= s
         && (s <= 1.0
-            && p.add(q.sub(p).scale(s)).distance(start)
+            && (p + (q - p) * s).distance(start)
                 <= 4.0 * (CHORD_DEVIATION * confusion) + 10.0 * confusion)
 }
 

@@ -55,7 +55,7 @@ fn unit_cross(na: Vector3D, nb: Vector3D, angular: f64) -> Option<Vector3D>
     if parallel(na.dot(na), nb.dot(nb), length, angular) {
         None
     } else {
-        Some(t.scale(1.0 / length))
+        Some(t * (1.0 / length))
     }
 }
 

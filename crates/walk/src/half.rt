@@ -27,7 +27,7 @@ fn first_walker(x: Parameters, p: Point3D, t: Vector3D, dir: f64) -> Walker
     Walker {
         x,
         p,
-        t: t.scale(dir),
+        t: t * dir,
         curvature: 0.0,
     }
 }

@@ -22,4 +22,4 @@ unfolding unit_cross
 returns-else-parallel c =
     let s = c.args in
     let t : cross_of s.na s.nb ≡ c.cross-t.result = sym c.cross-t.ensures in
-    rw (t, ← c.magnitude-length.ensures, root_of s.na, root_of s.nb, ← c.dot.ensures, ← c.dot-2.ensures, ← c.parallel.ensures, c.if-parallel.false, ← c.scale.ensures)
+    rw (t, ← c.magnitude-length.ensures, root_of s.na, root_of s.nb, ← c.dot.ensures, ← c.dot-2.ensures, ← c.parallel.ensures, c.if-parallel.false, ← c.mul.ensures)

@@ -1,7 +1,7 @@
 use mathlib.Core.Path.{◌≡◌}
 use mathlib.Core.Bool.{true, false}
 use lib.Ieee.{Float}
-use Rattle.std.specs.Prelude.{Option, Some, None}
+use Rattle.std.specs.Prelude.{Some, None}
 use Rattle.number.specs.Operators.{bits, ◌<?◌, ◌==?◌}
 use Rattle.boxes.specs.declared.marching.Span.{Span}
 use Rattle.boxes.specs.Segment.{clip_of}

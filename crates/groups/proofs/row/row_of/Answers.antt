@@ -1,11 +1,10 @@
-use mathlib.Core.Path.{◌≡◌, sym, ap, ◌∙◌}
+use mathlib.Core.Path.{sym, ap, ◌∙◌}
 use mathlib.Core.List.{List}
-use Prim.Native.Nat.{◌/◌, ◌<◌}
+use Prim.Native.Nat.{◌/◌}
 use native.Mathlib.Omega.{arith}
 use lib.Ieee.{Float}
-use lib.ListN.{length, get_or}
-use borrow.Author.Tests.{lt-ltb, le-ltb}
-use Rattle.std.specs.Simd.{first_chunks}
+use lib.ListN.{length}
+use borrow.Author.Tests.{le-ltb}
 use Rattle.groups.specs.Groups.{width}
 use Rattle.groups.specs.Row.{row_from, row_of}
 use Rattle.groups.proofs.Rows.{length_groups, group_of, row_group, row_there}

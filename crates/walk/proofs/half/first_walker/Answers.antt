@@ -3,4 +3,4 @@ use Rattle.walk.proofs.half.first_walker.Goals as goal
 
 pub returns : goal.returns
 unfolding first_walker
-returns c = rw c.scale.ensures
+returns c = rw c.mul.ensures

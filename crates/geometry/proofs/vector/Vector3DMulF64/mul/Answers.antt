@@ -1,6 +1,6 @@
 use mathlib.Core.Path.{refl}
 use Rattle.geometry.specs.Vector.{scale_of}
-use Rattle.geometry.proofs.vector.Vector3D.scale.Goals as goal
+use Rattle.geometry.proofs.vector.Vector3DMulF64.mul.Goals as goal
 
 pub returns : goal.returns
 unfolding scale_of

@@ -1,6 +1,6 @@
 use mathlib.Core.Path.{refl}
 use Rattle.geometry.specs.Vector.{add_of}
-use Rattle.geometry.proofs.vector.Vector3D.add.Goals as goal
+use Rattle.geometry.proofs.vector.Vector3DAdd.add.Goals as goal
 
 pub returns : goal.returns
 unfolding add_of
