@@ -5,6 +5,7 @@ use mathlib.Core.Bool.{Bool, true, false, ◌&&◌}
 use Prim.Native.Nat.{ℕ}
 use native.Mathlib.Nat.{lt_of_le_of_lt, lt_of_lt_of_le}
 use lib.Dec.{T, eqb, lit<}
+use Rattle.std.specs.Prelude.{Ok, Err}
 use lib.Pow.{pow_pos}
 use lib.Ieee.{Float, of_bits}
 use lib.Ieee.Fits.{and_l, and_r}
@@ -31,11 +32,9 @@ use Rattle.refusal.specs.declared.Refusal.TheVariants as refusal
 use Rattle.meeting.specs.declared.correction.Target.{Target}
 use Rattle.meeting.specs.declared.correction.Target.TheVariants.{Free, Plane, Pin}
 use Rattle.meeting.specs.declared.correction.Residual.{Residual}
-use Rattle.meeting.specs.declared.correction.Correction.{Correction}
-use Rattle.meeting.specs.declared.correction.Correction.TheVariants as correction
 use Rattle.meeting.specs.declared.newton.Met.{Met}
 use Rattle.meeting.specs.declared.newton.Met.TheVariants.{At, Refused}
-use Rattle.meeting.specs.Correction.{parameter_of, with_parameter, residual_of, correction_of, all_shifted, shifted_of}
+use Rattle.meeting.specs.Correction.{Correction, parameter_of, with_parameter, residual_of, correction_of, all_shifted, shifted_of}
 use Rattle.patch.specs.Located.{point_a, point_b}
 use Rattle.meeting.specs.Newton.{near_of, trial_body, most_trials, no_trial, trials_of, last_test, after_trials, after_solve, newton_round}
 use Rattle.meeting.specs.Newton.{most_rounds, going_on, round_body, newton_of, meet_of, meet_in_plane_of, land_of}
@@ -108,8 +107,8 @@ module _ (a b : Patch) (target : Target) (confusion : Float) (tight : T (tenth �
 
   after_correction : (i : ℕ) (s : Residual) → Own s → (r : Correction) → KeptOwn (going_on (after_solve a b target confusion i s r))
   unfolding KeptOwn
-  after_correction i s o (correction.By d) = after_trials_lem i s o (trials_of a b target s d) (trials_own s d o)
-  after_correction i s o (correction.Singular col) = tt
+  after_correction i s o (Ok d) = after_trials_lem i s o (trials_of a b target s d) (trials_own s d o)
+  after_correction i s o (Err e) = tt
 
   round_good : (i : ℕ) (s : Residual) → Own s → KeptOwn (round_body a b target confusion i s)
   unfolding newton_round KeptOwn

@@ -2,3 +2,4 @@ pub mod Symmetric
 pub mod Intersection
 pub mod Rounds
 pub mod Evaluated
+pub mod Free

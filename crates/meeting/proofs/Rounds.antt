@@ -6,6 +6,7 @@ use mathlib.Core.Logic.{inl, inr, ⊎_elim}
 use Prim.Native.Nat.{ℕ, ◌≤◌, ◌<◌}
 use native.Mathlib.Omega.{arith}
 use lib.Ieee.{Float}
+use Rattle.std.specs.Prelude.{List, Ok, Err}
 use Rattle.loops.specs.Loop.{pick, Flow}
 use Rattle.loops.proofs.Loop.{Kept, searched_keeps_at}
 use Rattle.number.specs.Operators.{◌⊗◌}
@@ -18,16 +19,13 @@ use Rattle.geometry.specs.declared.vector.Vector3D.{Vector3D}
 use Rattle.patch.specs.declared.patch.Patch.{Patch}
 use Rattle.patch.specs.declared.patch.Parameters.{Parameters}
 use Rattle.solve.specs.Cramer.{solver_tol}
-use Rattle.solve.proofs.Columns.{solve3_each, solve4_each}
+use Rattle.solve.proofs.Columns.{solve_each}
 use Rattle.meeting.specs.declared.correction.Target.{Target}
 use Rattle.meeting.specs.declared.correction.Target.TheVariants.{Free, Plane, Pin}
-use Rattle.meeting.specs.declared.correction.Columns.{Columns}
 use Rattle.meeting.specs.declared.correction.Residual.{Residual}
-use Rattle.meeting.specs.declared.correction.Correction.{Correction}
-use Rattle.meeting.specs.declared.correction.Correction.TheVariants as correction
 use Rattle.meeting.specs.declared.newton.Met.{Met}
 use Rattle.meeting.specs.declared.newton.Met.TheVariants.{At, Refused}
-use Rattle.meeting.specs.Correction.{residual_of, columns_of, normal_matrix, minus, minimum_norm, free_correction, by_four, plane_correction, by_three, pin_correction, correction_of}
+use Rattle.meeting.specs.Correction.{Correction, residual_of, columns_of, normal_matrix, minus, minimum_norm, free_correction, by_four, plane_correction, by_three, pin_correction, correction_of}
 use Rattle.meeting.specs.Newton.{near_of, trials_of, last_test, after_trials, after_solve, newton_round, most_rounds, going_on, round_body, newton_of}
 use Rattle.meeting.specs.Newton.{meet_of, Unmet, MetPromise}
 
@@ -44,20 +42,20 @@ unknowns (Pin k) = 3
 
 -- the column at which a correction's solve gives up is below n
 Within : ℕ → Correction → Type 0
-Within n (correction.By d) = Unit {0}
-Within n (correction.Singular col) = col < n
+Within n (Ok d) = Unit {0}
+Within n (Err e) = e.column < n
 
-free_within : (c : Columns) (f : Vector3D) → Within 3 (free_correction c f)
+free_within : (c : List Vector3D) (f : Vector3D) → Within 3 (free_correction c f)
 unfolding free_correction Within
-free_within c f = solve3_each (normal_matrix c) (minus f) solver_tol (λ r. Within 3 (minimum_norm c r)) (λ x. tt) (λ col h. h)
+free_within c f = solve_each 3 (normal_matrix c) (minus f) solver_tol (λ r. Within 3 (minimum_norm c r)) (λ x. tt) (λ col h. h)
 
-plane_within : (c : Columns) (normal f : Vector3D) (r : Float) → Within 4 (plane_correction c normal f r)
+plane_within : (c : List Vector3D) (normal f : Vector3D) (r : Float) → Within 4 (plane_correction c normal f r)
 unfolding plane_correction Within
-plane_within c normal f r = solve4_each _ _ solver_tol (λ r. Within 4 (by_four r)) (λ x. tt) (λ col h. h)
+plane_within c normal f r = solve_each 4 _ _ solver_tol (λ r. Within 4 (by_four r)) (λ x. tt) (λ col h. h)
 
-pin_within : (c : Columns) (pin : ℕ) (f : Vector3D) → Within 3 (pin_correction c pin f)
+pin_within : (c : List Vector3D) (pin : ℕ) (f : Vector3D) → Within 3 (pin_correction c pin f)
 unfolding pin_correction Within
-pin_within c pin f = solve3_each _ (minus f) solver_tol (λ r. Within 3 (by_three pin r)) (λ x. tt) (λ col h. h)
+pin_within c pin f = solve_each 3 _ (minus f) solver_tol (λ r. Within 3 (by_three pin r)) (λ x. tt) (λ col h. h)
 
 correction_within : (a b : Patch) (target : Target) (s : Residual) → Within (unknowns target) (correction_of a b target s)
 unfolding correction_of
@@ -83,8 +81,8 @@ module _ (a b : Patch) (target : Target) (confusion : Float) where
 
   solve_reason : (i : ℕ) (s : Residual) (r : Correction) → i < most_rounds → Within (unknowns target) r → Told (going_on (after_solve a b target confusion i s r))
   unfolding Reason Within
-  solve_reason i s (correction.By d) h w = trials_reason i s (trials_of a b target s d) h
-  solve_reason i s (correction.Singular col) h w = inr (refl, h, w)
+  solve_reason i s (Ok d) h w = trials_reason i s (trials_of a b target s d) h
+  solve_reason i s (Err e) h w = inr (refl, h, w)
 
   round_reason : (i : ℕ) (s : Residual) → i < most_rounds → Told (round_body a b target confusion i s)
   unfolding newton_round Reason

@@ -1,5 +1,6 @@
 -- A correction of Newton's method in `meet` and `land` of marching.rs. Definitions only.
-use Rattle.std.specs.Prelude.{ℕ, eqb, ltb, Float, List, [], ◌∷◌, get_or}
+use Rattle.std.specs.Prelude.{ℕ, eqb, ltb, Float, List, [], ◌∷◌, ◌++◌, get_or, Result, Ok, Err}
+use Rattle.std.specs.Float.{nan}
 use Rattle.std.specs.Float.Ieee.{neg}
 use Rattle.loops.specs.Loop.{pick}
 use Rattle.patch.specs.declared.patch.Parameters.{Parameters}
@@ -12,19 +13,12 @@ use Rattle.geometry.specs.Point.{difference_of}
 use Rattle.patch.specs.declared.patch.Patch.{Patch}
 use Rattle.analytic.specs.Surface.{eval_d1}
 use Rattle.patch.specs.Located.{point_a, point_b}
-use Rattle.solve.specs.declared.Solution3.{Solution3}
-use Rattle.solve.specs.declared.Solved3.{Solved3}
-use Rattle.solve.specs.declared.Solved4.{Solved4}
-use Rattle.solve.specs.declared.Solved3.TheVariants as solved3
-use Rattle.solve.specs.declared.Solved4.TheVariants as solved4
+use Rattle.solve.specs.declared.Singular.{Singular}
 use Rattle.solve.specs.Cramer.{solver_tol}
-use Rattle.solve.specs.Solve.{solve3_of, solve4_of}
+use Rattle.solve.specs.Solve.{Solved, solve_of}
 use Rattle.meeting.specs.declared.correction.Target.{Target}
 use Rattle.meeting.specs.declared.correction.Target.TheVariants.{Free, Plane, Pin}
 use Rattle.meeting.specs.declared.correction.Residual.{Residual}
-use Rattle.meeting.specs.declared.correction.Columns.{Columns}
-use Rattle.meeting.specs.declared.correction.Correction.{Correction}
-use Rattle.meeting.specs.declared.correction.Correction.TheVariants.{By, Singular}
 
 -- the k-th of four, 0 to 3; an index above 3 counts as 3
 abbrev pub of_four : {A : Type 0} → ℕ → A → A → A → A → A
@@ -63,24 +57,37 @@ residual_of a b target x = record {
 }
 
 -- [au, av, -bu, -bv]
-unfoldable pub columns_of : Patch → Patch → Parameters → Columns
-columns_of a b x = record {
-  c0 = (eval_d1 a.surface x.u1 x.v1).u;
-  c1 = (eval_d1 a.surface x.u1 x.v1).v;
-  c2 = neg_of (eval_d1 b.surface x.u2 x.v2).u;
-  c3 = neg_of (eval_d1 b.surface x.u2 x.v2).v;
-}
+unfoldable pub columns_of : Patch → Patch → Parameters → List Vector3D
+columns_of a b x =
+    (eval_d1 a.surface x.u1 x.v1).u
+    ∷ (eval_d1 a.surface x.u1 x.v1).v
+    ∷ neg_of (eval_d1 b.surface x.u2 x.v2).u
+    ∷ neg_of (eval_d1 b.surface x.u2 x.v2).v
+    ∷ []
+
+-- the Rust's cols[k]; k is one of four
+abbrev pub column_of : List Vector3D → ℕ → Vector3D
+column_of c k = get_or c k (record { x = nan; y = nan; z = nan })
+
+-- `cols.map(|c| c.x)`: a row is one coordinate of the four columns
+abbrev pub row_of : List Vector3D → (Vector3D → Float) → List Float
+row_of c p = p (column_of c 0) ∷ p (column_of c 1) ∷ p (column_of c 2) ∷ p (column_of c 3) ∷ []
+
+-- the rows of J
+abbrev pub rows_of : List Vector3D → List (List Float)
+rows_of c = row_of c (λ v. v.x) ∷ row_of c (λ v. v.y) ∷ row_of c (λ v. v.z) ∷ []
 
 -- "`sum` starts from the zero of the oracle's toolchain": -0
-unfoldable pub dot4_of : Float → Float → Float → Float → Float → Float → Float → Float → Float
-dot4_of p0 p1 p2 p3 q0 q1 q2 q3 = sum_start ⊕ p0 ⊗ q0 ⊕ p1 ⊗ q1 ⊕ p2 ⊗ q2 ⊕ p3 ⊗ q3
+unfoldable pub dot4_of : List Float → List Float → Float
+dot4_of p q =
+    sum_start ⊕ get_or p 0 nan ⊗ get_or q 0 nan ⊕ get_or p 1 nan ⊗ get_or q 1 nan ⊕ get_or p 2 nan ⊗ get_or q 2 nan ⊕ get_or p 3 nan ⊗ get_or q 3 nan
 
--- the Rust's `dot(p, q)`: a row is one coordinate of the four columns
-abbrev pub row_dot : Columns → (Vector3D → Float) → (Vector3D → Float) → Float
-row_dot c p q = dot4_of (p c.c0) (p c.c1) (p c.c2) (p c.c3) (q c.c0) (q c.c1) (q c.c2) (q c.c3)
+-- the Rust's `dot(p, q)` of two rows
+abbrev pub row_dot : List Vector3D → (Vector3D → Float) → (Vector3D → Float) → Float
+row_dot c p q = dot4_of (row_of c p) (row_of c q)
 
 -- J J^T of the minimum-norm correction: `rows.map(|p| rows.map(|q| dot(p, q)))`
-unfoldable pub normal_matrix : Columns → List (List Float)
+unfoldable pub normal_matrix : List Vector3D → List (List Float)
 normal_matrix c =
     let x : Vector3D → Float = λ v. v.x in
     let y : Vector3D → Float = λ v. v.y in
@@ -94,64 +101,64 @@ normal_matrix c =
 abbrev pub minus : Vector3D → List Float
 minus f = neg f.x ∷ neg f.y ∷ neg f.z ∷ []
 
+-- the change of the parameters, or the column at which the solver gave up
+abbrev pub Correction : Type 0
+Correction = Result Parameters Singular
+
 -- the Rust's minimum-norm step, `J^T y` with `J J^T y = -f`
-abbrev pub minimum_norm : Columns → Solved3 → Correction
-minimum_norm c (solved3.Singular col) = Singular col
-minimum_norm c (solved3.Solution s) =
-    let y = vector_of s.x0 s.x1 s.x2 in
-    By (record { u1 = dot_of c.c0 y; v1 = dot_of c.c1 y; u2 = dot_of c.c2 y; v2 = dot_of c.c3 y })
+abbrev pub minimum_norm : List Vector3D → Solved → Correction
+minimum_norm c (Err e) = Err e
+minimum_norm c (Ok s) =
+    let y = vector_of (get_or s 0 nan) (get_or s 1 nan) (get_or s 2 nan) in
+    Ok (record { u1 = dot_of (column_of c 0) y; v1 = dot_of (column_of c 1) y; u2 = dot_of (column_of c 2) y; v2 = dot_of (column_of c 3) y })
 
 -- the correction without a plane and without a pin, solved with "tol is 1e-12 throughout"
-unfoldable pub free_correction : Columns → Vector3D → Correction
-free_correction c f = minimum_norm c (solve3_of (normal_matrix c) (minus f) solver_tol)
+unfoldable pub free_correction : List Vector3D → Vector3D → Correction
+free_correction c f = minimum_norm c (solve_of 3 (normal_matrix c) (minus f) solver_tol)
 
 -- the solution of four unknowns as a correction
-abbrev pub by_four : Solved4 → Correction
-by_four (solved4.Singular col) = Singular col
-by_four (solved4.Solution d) = By (record { u1 = d.x0; v1 = d.x1; u2 = d.x2; v2 = d.x3 })
+abbrev pub by_four : Solved → Correction
+by_four (Err e) = Err e
+by_four (Ok d) = Ok (record { u1 = get_or d 0 nan; v1 = get_or d 1 nan; u2 = get_or d 2 nan; v2 = get_or d 3 nan })
 
 -- with the plane: three rows of coordinates, and the columns' products with the normal
-unfoldable pub plane_correction : Columns → Vector3D → Vector3D → Float → Correction
+unfoldable pub plane_correction : List Vector3D → Vector3D → Vector3D → Float → Correction
 plane_correction c normal f r =
     by_four
-    (solve4_of
-    ((c.c0.x ∷ c.c1.x ∷ c.c2.x ∷ c.c3.x ∷ [])
-    ∷ (c.c0.y ∷ c.c1.y ∷ c.c2.y ∷ c.c3.y ∷ [])
-    ∷ (c.c0.z ∷ c.c1.z ∷ c.c2.z ∷ c.c3.z ∷ [])
-    ∷ (dot_of c.c0 normal ∷ dot_of c.c1 normal ∷ bits 0 ∷ bits 0 ∷ [])
-    ∷ [])
+    (solve_of 4
+    (rows_of c ++ ((dot_of (column_of c 0) normal ∷ dot_of (column_of c 1) normal ∷ bits 0 ∷ bits 0 ∷ []) ∷ []))
     (neg f.x ∷ neg f.y ∷ neg f.z ∷ neg r ∷ [])
     solver_tol)
-
--- the Rust's cols[k]
-unfoldable pub column_of : Columns → ℕ → Vector3D
-column_of c k = of_four k c.c0 c.c1 c.c2 c.c3
 
 -- "A table of four rows of three names the free ones for each pin, 0 to 3, in rising order"; a pin above 3 counts as 3
 abbrev pub free_table : List (List ℕ)
 free_table = (1 ∷ 2 ∷ 3 ∷ []) ∷ (0 ∷ 2 ∷ 3 ∷ []) ∷ (0 ∷ 1 ∷ 3 ∷ []) ∷ (0 ∷ 1 ∷ 2 ∷ []) ∷ []
 
--- the i-th free parameter of a pin
-unfoldable pub free_of : ℕ → ℕ → ℕ
-free_of pin i = get_or (get_or free_table (pick (ltb pin 3) pin 3) []) i 0
+-- the free parameters of a pin
+unfoldable pub free_of : ℕ → List ℕ
+free_of pin = get_or free_table (pick (ltb pin 3) pin 3) []
+
+-- the i-th of them
+abbrev pub free_at : ℕ → ℕ → ℕ
+free_at pin i = get_or (free_of pin) i 0
 
 -- the three changes in their places, and 0 in the pinned one's
-unfoldable pub placed_of : ℕ → Solution3 → Parameters
+unfoldable pub placed_of : ℕ → List Float → Parameters
 placed_of pin d =
-    with_parameter (with_parameter (with_parameter (record { u1 = bits 0; v1 = bits 0; u2 = bits 0; v2 = bits 0 }) (free_of pin 0) d.x0) (free_of pin 1) d.x1) (free_of pin 2) d.x2
+    with_parameter (with_parameter (with_parameter (record { u1 = bits 0; v1 = bits 0; u2 = bits 0; v2 = bits 0 }) (free_at pin 0) (get_or d 0 nan)) (free_at pin 1) (get_or d 1 nan)) (free_at pin 2) (get_or d 2 nan)
 
 -- the solution of three unknowns as a correction
-abbrev pub by_three : ℕ → Solved3 → Correction
-by_three pin (solved3.Singular col) = Singular col
-by_three pin (solved3.Solution d) = By (placed_of pin d)
+abbrev pub by_three : ℕ → Solved → Correction
+by_three pin (Err e) = Err e
+by_three pin (Ok d) = Ok (placed_of pin d)
 
 -- three columns as a matrix of rows
 abbrev pub free_rows : Vector3D → Vector3D → Vector3D → List (List Float)
 free_rows p q s = (p.x ∷ q.x ∷ s.x ∷ []) ∷ (p.y ∷ q.y ∷ s.y ∷ []) ∷ (p.z ∷ q.z ∷ s.z ∷ []) ∷ []
 
 -- "`land` does the same without plane, one parameter pinned": the columns of the free parameters
-unfoldable pub pin_correction : Columns → ℕ → Vector3D → Correction
-pin_correction c pin f = by_three pin (solve3_of (free_rows (column_of c (free_of pin 0)) (column_of c (free_of pin 1)) (column_of c (free_of pin 2))) (minus f) solver_tol)
+unfoldable pub pin_correction : List Vector3D → ℕ → Vector3D → Correction
+pin_correction c pin f = by_three pin (solve_of 3 (free_rows (column_of c (free_at pin 0)) (column_of c (free_at pin 1)) (column_of c (free_at pin 2))) (minus f) solver_tol)
 
 -- the correction for what is solved beside the meeting
 unfoldable pub correction_of : Patch → Patch → Target → Residual → Correction

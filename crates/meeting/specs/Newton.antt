@@ -1,5 +1,5 @@
 -- `meet` and `land` of marching.rs. Definitions only.
-use Rattle.std.specs.Prelude.{◌≡◌, Bool, ◌&&◌, ◌⊎◌, ℕ, ◌≤◌, ◌<◌, Float, Option, Some, None}
+use Rattle.std.specs.Prelude.{◌≡◌, Bool, ◌&&◌, ◌⊎◌, ℕ, ◌≤◌, ◌<◌, Float, Option, Some, None, Ok, Err}
 use Rattle.std.specs.declared.ops.ControlFlow.{ControlFlow}
 use Rattle.std.specs.declared.ops.ControlFlow.TheVariants.{Continue, Break}
 use Rattle.loops.specs.Loop.{pick, Flow, on, out, searched}
@@ -18,11 +18,9 @@ use Rattle.refusal.specs.Refusal.{round_of, column_of}
 use Rattle.meeting.specs.declared.correction.Target.{Target}
 use Rattle.meeting.specs.declared.correction.Target.TheVariants.{Free, Plane, Pin}
 use Rattle.meeting.specs.declared.correction.Residual.{Residual}
-use Rattle.meeting.specs.declared.correction.Correction.{Correction}
-use Rattle.meeting.specs.declared.correction.Correction.TheVariants as correction
 use Rattle.meeting.specs.declared.newton.Met.{Met}
 use Rattle.meeting.specs.declared.newton.Met.TheVariants.{At, Refused}
-use Rattle.meeting.specs.Correction.{with_parameter, residual_of, correction_of, shifted_of}
+use Rattle.meeting.specs.Correction.{Correction, with_parameter, residual_of, correction_of, shifted_of}
 
 -- gap and plane offset at most a bound; "Both tests also ask that every parameter lie inside its window where that has no turn mark"
 unfoldable pub near_of : Patch → Patch → Residual → Float → Bool
@@ -68,8 +66,8 @@ after_trials a b confusion i s None = Break (last_test a b confusion i s)
 -- "A failed solve refuses, even where that last test would pass."; 02, A2: "with 21, in the place of 9, when a solve gave up";
 -- A3: the column at which it did is handed on
 abbrev pub after_solve : Patch → Patch → Target → Float → ℕ → Residual → Correction → ControlFlow Met Residual
-after_solve a b target confusion i s (correction.By d) = after_trials a b confusion i s (trials_of a b target s d)
-after_solve a b target confusion i s (correction.Singular col) = Break (Refused (refusal.Singular i col))
+after_solve a b target confusion i s (Ok d) = after_trials a b confusion i s (trials_of a b target s d)
+after_solve a b target confusion i s (Err e) = Break (Refused (refusal.Singular i e.column))
 
 -- "accepted at once when gap and plane offset are at most a tenth of confusion; else a solve, and up to 12 trials"
 unfoldable pub newton_round : Patch → Patch → Target → Float → ℕ → Residual → ControlFlow Met Residual

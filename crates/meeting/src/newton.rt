@@ -2,11 +2,12 @@
 ghost use Rattle.std.specs.Prelude.{◌≡◌};
 ghost use Rattle.meeting.specs.Newton.{near_of, trials_of, last_test, newton_round, newton_of, meet_of, meet_in_plane_of, land_of, MetPromise};
 
-use crate::correction::{Correction, Residual, Target, newton_correction, residual_at, shifted};
+use crate::correction::{Residual, Target, newton_correction, residual_at, shifted};
 use crate::parameters::with_parameter;
 use geometry::{Point3D, Tolerance, Vector3D};
 use patch::{Parameters, Patch, inside, within_bounds};
 use refusal::Refusal;
+use solve::Singular;
 use std::ops::ControlFlow;
 
 // The most trials of a correction, and the most rounds.
@@ -72,10 +73,10 @@ fn newton_round(
     }
     let correction = newton_correction(a, b, target, s);
     match correction {
-        Correction::Singular(column) => {
+        Err(Singular { column }) => {
             ControlFlow::Break(Met::Refused(Refusal::Singular { round, column }))
         }
-        Correction::By(d) => {
+        Ok(d) => {
             let Some(t) = trials(a, b, target, s, d) else {
                 return ControlFlow::Break(last_test(a, b, confusion, round, s));
             };

@@ -1,12 +1,9 @@
 -- The solver of two unknowns, and when a solver gives up (01, "The walk", "Solving"; the Rust's math/solve.rs). Definitions only.
-use Rattle.std.specs.Prelude.{List, [], Bool, ℕ, get_or, Float}
+use Rattle.std.specs.Prelude.{List, [], ◌∷◌, Bool, ℕ, get_or, Float, Option, Some, None}
 use Rattle.std.specs.Float.{nan}
 use Rattle.loops.specs.Loop.{pick}
 use Rattle.number.specs.Operators.{◌⊕◌, ◌⊖◌, ◌⊗◌, ◌⊘◌, ◌≤?◌, bits}
 use Rattle.number.specs.Helpers.{min_positive, abs_of, max_of}
-use Rattle.solve.specs.declared.cramer.Solution2.{Solution2}
-use Rattle.solve.specs.declared.cramer.Solved2.{Solved2}
-use Rattle.solve.specs.declared.cramer.Solved2.TheVariants as solved2
 
 -- "tol is 1e-12 throughout": the walk's solves; the solvers take any
 abbrev pub solver_tol : Float
@@ -29,14 +26,12 @@ abbrev pub scale2_of : List (List Float) → Float
 scale2_of a = abs_of (cell a 0 0) ⊗ abs_of (cell a 1 1) ⊕ abs_of (cell a 0 1) ⊗ abs_of (cell a 1 0)
 
 -- the solution by Cramer's rule
-abbrev pub cramer_of : List (List Float) → List Float → Float → Solution2
+abbrev pub cramer_of : List (List Float) → List Float → Float → List Float
 cramer_of a b det =
-    record {
-      x0 = (get_or b 0 nan ⊗ cell a 1 1 ⊖ get_or b 1 nan ⊗ cell a 0 1) ⊘ det;
-      x1 = (cell a 0 0 ⊗ get_or b 1 nan ⊖ cell a 1 0 ⊗ get_or b 0 nan) ⊘ det;
-    }
+    (get_or b 0 nan ⊗ cell a 1 1 ⊖ get_or b 1 nan ⊗ cell a 0 1) ⊘ det
+    ∷ (cell a 0 0 ⊗ get_or b 1 nan ⊖ cell a 1 0 ⊗ get_or b 0 nan) ⊘ det
+    ∷ []
 
 -- `solve_2x2`: "has its own test", of the determinant
-unfoldable pub solve2_of : List (List Float) → List Float → Float → Solved2
-solve2_of a b tol =
-    pick (gives_up (determinant_of a) tol (scale2_of a)) solved2.Singular (solved2.Solution (cramer_of a b (determinant_of a)))
+unfoldable pub solve2_of : List (List Float) → List Float → Float → Option (List Float)
+solve2_of a b tol = pick (gives_up (determinant_of a) tol (scale2_of a)) None (Some (cramer_of a b (determinant_of a)))

@@ -1,14 +1,12 @@
 -- The square solvers (01, "The walk", "Solving"; the Rust's math/solve.rs), over lists of any size n. Definitions only.
-use Rattle.std.specs.Prelude.{◌≡◌, Bool, List, [], ℕ, ◌+◌, ◌-◌, ◌<◌, get_or, set, replicate, Float}
+use Rattle.std.specs.Prelude.{◌≡◌, Bool, List, [], ℕ, ◌+◌, ◌-◌, ◌<◌, get_or, set, replicate, Float, Result, Ok, Err, MatchResult}
 use Rattle.std.specs.Float.{nan}
+use Rattle.std.specs.List.{swap}
 use Rattle.loops.specs.Loop.{pick, ranged, Flow, on, out, searched}
 use Rattle.number.specs.Operators.{◌⊕◌, ◌⊖◌, ◌⊗◌, ◌⊘◌, ◌<?◌, bits}
 use Rattle.number.specs.Helpers.{abs_of, sum_start}
 use Rattle.solve.specs.Cramer.{cell, gives_up}
-use Rattle.solve.specs.declared.Solved3.{Solved3}
-use Rattle.solve.specs.declared.Solved4.{Solved4}
-use Rattle.solve.specs.declared.Solved3.TheVariants as solved3
-use Rattle.solve.specs.declared.Solved4.TheVariants as solved4
+use Rattle.solve.specs.declared.Singular.{Singular}
 
 -- one entry's magnitude added to the sum
 abbrev pub add_magnitude : List Float → ℕ → Float → Float
@@ -46,10 +44,6 @@ better m col row pivot = greater_of (cell m pivot col) (cell m row col) pivot ro
 abbrev pub pivot_of : ℕ → List (List Float) → ℕ → ℕ
 pivot_of n m col = ranged (better m col) (col + 1) n col
 
--- `swap`, of a matrix's rows and of the right side; d is never read
-abbrev pub swap_of : {A : Type 0} → A → List A → ℕ → ℕ → List A
-swap_of d l i j = set (set l i (get_or l j d)) j (get_or l i d)
-
 -- `*cell -= factor * pivot_row[k]`
 abbrev pub entry_reduced : List Float → Float → ℕ → List Float → List Float
 entry_reduced pivot factor k row = set row k (get_or row k nan ⊖ factor ⊗ get_or pivot k nan)
@@ -82,9 +76,9 @@ eliminate_row n col row s =
 abbrev pub eliminated_of : ℕ → ℕ → System → System
 eliminated_of n col s = ranged (eliminate_row n col) (col + 1) n s
 
--- the pivot of column col in its place
+-- the pivot of column col in its place: `swap`, of the matrix's rows and of the right side
 abbrev pub swapped_of : ℕ → ℕ → System → System
-swapped_of n col s = system (swap_of [] s.rows col (pivot_of n s.rows col)) (swap_of nan s.right col (pivot_of n s.rows col))
+swapped_of n col s = system (swap s.rows col (pivot_of n s.rows col)) (swap s.right col (pivot_of n s.rows col))
 
 -- `acc -= m[row][k] * x[k]`
 abbrev pub less_product : List Float → List Float → ℕ → Float → Float
@@ -108,9 +102,12 @@ abbrev pub back_substitution : ℕ → System → List Float
 back_substitution n s = ranged (back_body n s) 0 n (replicate n (bits 0))
 
 -- the answer of `solve_square`: the solution, or the column that had no pivot (`None`); 02, A3: "say the column, from 0, at which they did"
-pub data Solved : Type 0 where
-  solution : List Float → Solved
-  singular : ℕ → Solved
+abbrev pub Solved : Type 0
+Solved = Result (List Float) Singular
+
+-- it gave up at this column
+abbrev pub singular : ℕ → Solved
+singular col = Err (record { column = col })
 
 -- one column of `solve_square`: the only place where it gives up
 abbrev pub column : ℕ → Float → Float → ℕ → System → Flow System Solved
@@ -119,37 +116,20 @@ column n tol scale col s =
 
 -- the columns from col on, then back substitution
 abbrev pub solving : ℕ → Float → Float → ℕ → System → Solved
-solving n tol scale col s = searched (column n tol scale) (λ t. solution (back_substitution n t)) col n (on s)
+solving n tol scale col s = searched (column n tol scale) (λ t. Ok (back_substitution n t)) col n (on s)
+
+-- what one column makes of the columns from it on: the rest of them, of the rows and the right side that it leaves, or the answer
+abbrev pub Advanced : ℕ → Float → Float → ℕ → System → Result (List (List Float)) Singular → List Float → Type 0
+Advanced n tol scale col s r right =
+    MatchResult r
+    (λ m. solving n tol scale col s ≡ solving n tol scale (col + 1) (system m right))
+    (λ e. solving n tol scale col s ≡ Err e)
 
 -- `solve_square`
 unfoldable pub solve_of : ℕ → List (List Float) → List Float → Float → Solved
 solve_of n m b tol = solving n tol (sum_of_magnitudes n m) 0 (system m b)
 
--- the answer for three unknowns, the solution's entries by name
-abbrev pub answer3 : Solved → Solved3
-answer3 (solution x) = solved3.Solution (record { x0 = get_or x 0 nan; x1 = get_or x 1 nan; x2 = get_or x 2 nan })
-answer3 (singular col) = solved3.Singular col
-
--- the same for four unknowns
-abbrev pub answer4 : Solved → Solved4
-answer4 (solution x) =
-    solved4.Solution (record { x0 = get_or x 0 nan; x1 = get_or x 1 nan; x2 = get_or x 2 nan; x3 = get_or x 3 nan })
-answer4 (singular col) = solved4.Singular col
-
--- `solve_3x3`
-unfoldable pub solve3_of : List (List Float) → List Float → Float → Solved3
-solve3_of m b tol = answer3 (solve_of 3 m b tol)
-
--- `solve_4x4`
-unfoldable pub solve4_of : List (List Float) → List Float → Float → Solved4
-solve4_of m b tol = answer4 (solve_of 4 m b tol)
-
--- the contract of `solve_3x3`: the answer, and that the column at which it gives up is one of the matrix
-pub record Solve3Promise (m : List (List Float)) (b : List Float) (tol : Float) (r : Solved3) : Type 0 where
-  pub answer : r ≡ solve3_of m b tol
-  pub column : (col : ℕ) → r ≡ solved3.Singular col → col < 3
-
--- that of `solve_4x4`
-pub record Solve4Promise (m : List (List Float)) (b : List Float) (tol : Float) (r : Solved4) : Type 0 where
-  pub answer : r ≡ solve4_of m b tol
-  pub column : (col : ℕ) → r ≡ solved4.Singular col → col < 4
+-- the contract of `solve_square`: the answer, and that the column at which it gives up is one of the matrix
+pub record SolvePromise (n : ℕ) (m : List (List Float)) (b : List Float) (tol : Float) (r : Solved) : Type 0 where
+  pub answer : r ≡ solve_of n m b tol
+  pub column : (col : ℕ) → r ≡ singular col → col < n

@@ -4,20 +4,6 @@
 ghost use Rattle.std.specs.Prelude.{◌≡◌};
 ghost use Rattle.solve.specs.Cramer.{gives_up, determinant_of, scale2_of, cramer_of, solve2_of};
 
-// The two unknowns.
-#[derive(Clone, Copy)]
-pub struct Solution2 {
-    pub x0: f64,
-    pub x1: f64,
-}
-
-// The solution, or that the solver gave up.
-#[derive(Clone, Copy)]
-pub enum Solved2 {
-    Solution(Solution2),
-    Singular,
-}
-
 // Whether a pivot, or a determinant, is at most tol times the scale in magnitude. A NaN isn't; a NaN scale is as the smallest normal.
 pub fn gives_up(pivot: f64, tol: f64, scale: f64) -> bool
     ensures { result ≡ gives_up pivot tol scale }
@@ -40,22 +26,22 @@ fn scale2(a: [[f64; 2]; 2]) -> f64
 }
 
 // Cramer's rule, with the determinant at hand.
-fn cramer(a: [[f64; 2]; 2], b: [f64; 2], det: f64) -> Solution2
+fn cramer(a: [[f64; 2]; 2], b: [f64; 2], det: f64) -> [f64; 2]
     ensures { result ≡ cramer_of a b det }
 {
-    Solution2 {
-        x0: (b[0] * a[1][1] - b[1] * a[0][1]) / det,
-        x1: (a[0][0] * b[1] - a[1][0] * b[0]) / det,
-    }
+    [
+        (b[0] * a[1][1] - b[1] * a[0][1]) / det,
+        (a[0][0] * b[1] - a[1][0] * b[0]) / det,
+    ]
 }
 
-// The 2 by 2 system a x = b, or Singular where the determinant is at most tol times its scale.
-pub fn solve_2x2(a: [[f64; 2]; 2], b: [f64; 2], tol: f64) -> Solved2
+// The 2 by 2 system a x = b, or None where the determinant is at most tol times its scale.
+pub fn solve_2x2(a: [[f64; 2]; 2], b: [f64; 2], tol: f64) -> Option<[f64; 2]>
     ensures { result ≡ solve2_of a b tol }
 {
     let det = determinant(a);
     if gives_up(det, tol, scale2(a)) {
-        return Solved2::Singular;
+        return None;
     }
-    Solved2::Solution(cramer(a, b, det))
+    Some(cramer(a, b, det))
 }

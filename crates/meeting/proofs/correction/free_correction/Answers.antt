@@ -1,12 +1,16 @@
-use Rattle.meeting.specs.Correction.{free_correction}
+use mathlib.Core.Path.{◌≡◌, sym, ap, ◌∙◌}
+use Rattle.std.proofs.Common.{rules, Err}
+use Rattle.meeting.specs.Correction.{minimum_norm, free_correction}
 use Rattle.meeting.proofs.correction.free_correction.Goals as goal
 
-pub returns-in-Singular : goal.returns-in-Singular
+pub returns-in_err-x : goal.returns-in_err-x
 unfolding free_correction
-returns-in-Singular c = rw (← c.normal_matrix-m.ensures, ← c.solve_3x3-solved.ensures.answer, c.in-Singular.is)
+returns-in_err-x c =
+    let e : c.from_residual.result ≡ Err c.in_err-x.field-0.0 = search rules in
+    rw (← c.normal_matrix.ensures) (e ∙ ap (minimum_norm c.args.c) (sym c.in_err-x.was ∙ c.solve_square.ensures.answer))
 
-pub returns-in-Solution : goal.returns-in-Solution
+pub returns : goal.returns
 unfolding free_correction
-returns-in-Solution c =
-    rw (c.dot-in-Solution-3.ensures, c.dot-in-Solution-2.ensures, c.dot-in-Solution.ensures, c.dot.ensures, c.new-y.ensures, ← c.normal_matrix-m.ensures)
-    (rw (← c.solve_3x3-solved.ensures.answer, c.in-Solution.is))
+returns c =
+    rw (c.dot-4.ensures, c.dot-3.ensures, c.dot-2.ensures, c.dot.ensures, c.new-y.ensures, ← c.normal_matrix.ensures)
+    (ap (minimum_norm c.args.c) (sym c.in_ok-x.was ∙ c.solve_square.ensures.answer))

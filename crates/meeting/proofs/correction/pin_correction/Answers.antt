@@ -1,15 +1,15 @@
-use mathlib.Core.Path.{sym, ap, ◌∙◌}
+use mathlib.Core.Path.{◌≡◌, ap, sym, ◌∙◌}
+use Rattle.std.proofs.Common.{rules, Err}
 use Rattle.meeting.specs.Correction.{by_three, pin_correction}
 use Rattle.meeting.proofs.correction.pin_correction.Goals as goal
 
-pub returns-in-Singular : goal.returns-in-Singular
+pub returns-in_err-d : goal.returns-in_err-d
 unfolding pin_correction
-returns-in-Singular c =
-    rw (← c.free.ensures, ← c.column-p.ensures, ← c.free-2.ensures, ← c.column-q.ensures, ← c.free-3.ensures, ← c.column-s.ensures)
-    (ap (by_three c.args.pin) (sym c.in-Singular.is ∙ c.solve_3x3-solved.ensures.answer))
+returns-in_err-d c =
+    let e : c.from_residual.result ≡ Err c.in_err-d.field-0.0 = search rules in
+    let h = rw c.free.ensures.row at (sym c.in_err-d.was ∙ c.solve_square.ensures.answer) in
+    e ∙ ap (by_three c.args.pin) h
 
-pub returns-in-Solution : goal.returns-in-Solution
+pub returns : goal.returns
 unfolding pin_correction
-returns-in-Solution c =
-    rw (c.placed.ensures, ← c.free.ensures, ← c.column-p.ensures, ← c.free-2.ensures, ← c.column-q.ensures, ← c.free-3.ensures)
-    (rw (← c.column-s.ensures) (ap (by_three c.args.pin) (sym c.in-Solution.is ∙ c.solve_3x3-solved.ensures.answer)))
+returns c = rw c.placed.ensures (ap (by_three c.args.pin) (rw c.free.ensures.row at (sym c.in_ok-d.was ∙ c.solve_square.ensures.answer)))

@@ -3,4 +3,4 @@ use Rattle.meeting.proofs.correction.placed.Goals as goal
 
 pub returns : goal.returns
 unfolding placed_of
-returns c = rw (c.with_parameter.ensures, c.free-3.ensures, c.with_parameter-second.ensures, c.free-2.ensures, c.with_parameter-first.ensures, c.free.ensures)
+returns c = rw (c.with_parameter.ensures, c.with_parameter-second.ensures, c.with_parameter-first.ensures, c.free.ensures.row)

@@ -1,11 +1,15 @@
-use mathlib.Core.Path.{sym, ap, ◌∙◌}
+use mathlib.Core.Path.{◌≡◌, ap, sym, ◌∙◌}
+use Rattle.std.proofs.Common.{rules, Err}
 use Rattle.meeting.specs.Correction.{by_four, plane_correction}
 use Rattle.meeting.proofs.correction.plane_correction.Goals as goal
 
-pub returns-in-Singular : goal.returns-in-Singular
+pub returns-in_err-u1 : goal.returns-in_err-u1
 unfolding plane_correction
-returns-in-Singular c = rw (← c.dot.ensures, ← c.dot-2.ensures) (ap by_four (sym c.in-Singular.is ∙ c.solve_4x4-solved.ensures.answer))
+returns-in_err-u1 c =
+    let e : c.from_residual.result ≡ Err c.in_err-u1.field-0.0 = search rules in
+    let h = rw (c.rows.ensures, c.dot.ensures, c.dot-2.ensures) at (sym c.in_err-u1.was ∙ c.solve_square.ensures.answer) in
+    e ∙ ap by_four h
 
-pub returns-in-Solution : goal.returns-in-Solution
+pub returns : goal.returns
 unfolding plane_correction
-returns-in-Solution c = rw (← c.dot.ensures, ← c.dot-2.ensures) (ap by_four (sym c.in-Solution.is ∙ c.solve_4x4-solved.ensures.answer))
+returns c = ap by_four (rw (c.rows.ensures, c.dot.ensures, c.dot-2.ensures) at (sym c.in_ok-u1.was ∙ c.solve_square.ensures.answer))

@@ -20,13 +20,13 @@ returns-then-near c = rw (at_once _ _ _ _ c.near.ensures c.if-near.true)
 pub returns-in_default : goal.returns-in_default
 unfolding newton_round
 returns-in_default c =
-    rw (at_once _ _ _ _ c.near.ensures c.if-near.false, ← c.newton_correction-correction.ensures, c.in-By.is, ← c.trials.ensures)
+    rw (at_once _ _ _ _ c.near.ensures c.if-near.false, ← c.newton_correction-correction.ensures, c.in-Ok.is, ← c.trials.ensures)
     (rw c.in_default.is (ap Break c.last_test.ensures))
 
-pub returns-in-Singular : goal.returns-in-Singular
+pub returns-in-Err : goal.returns-in-Err
 unfolding newton_round
-returns-in-Singular c = rw (at_once _ _ _ _ c.near.ensures c.if-near.false, ← c.newton_correction-correction.ensures, c.in-Singular.is)
+returns-in-Err c = rw (at_once _ _ _ _ c.near.ensures c.if-near.false, ← c.newton_correction-correction.ensures, c.in-Err.is)
 
 pub returns-in-Some : goal.returns-in-Some
 unfolding newton_round
-returns-in-Some c = rw (at_once _ _ _ _ c.near.ensures c.if-near.false, ← c.newton_correction-correction.ensures, c.in-By.is, ← c.trials.ensures, c.in-Some.is)
+returns-in-Some c = rw (at_once _ _ _ _ c.near.ensures c.if-near.false, ← c.newton_correction-correction.ensures, c.in-Ok.is, ← c.trials.ensures, c.in-Some.is)
