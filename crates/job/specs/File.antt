@@ -2,7 +2,7 @@
 use Rattle.std.specs.Prelude.{Bool, true, ◌&&◌, ◌||◌, List, ℕ, ◌+◌, eqb, ltb, length, Float}
 use Rattle.loops.specs.Loop.{pick}
 use Rattle.number.specs.Operators.{bits}
-use Rattle.wire.specs.Wire.{byte_at, two_at, four_at, eight_at, number_at}
+use Rattle.wire.specs.Wire.{byte_at, uint_at, number_at}
 use Rattle.refusal.specs.declared.Refusal.TheVariants.{JobFile}
 use Rattle.geometry.specs.declared.point.Point3D.{Point3D}
 use Rattle.geometry.specs.declared.vector.Vector3D.{Vector3D}
@@ -74,7 +74,7 @@ unfoldable pub surface_at : List ℕ → ℕ → SurfaceRead
 surface_at s at =
     pick (ltb 4 (byte_at s at)) (surface.Refused JobFile)
     (pick (ltb both_marks (byte_at s (at + marks_place))) (surface.Refused JobFile)
-    (pick (unused_clear (byte_at s at) (eight_at s (at + first_size_place)) (eight_at s (at + second_size_place)))
+    (pick (unused_clear (byte_at s at) (uint_at 8 s (at + first_size_place)) (uint_at 8 s (at + second_size_place)))
     (surface.Whole (patch_at s at (byte_at s at) (byte_at s (at + marks_place))))
     (surface.Refused JobFile)))
 
@@ -96,7 +96,7 @@ job_at s a b =
       b = b;
       tol = record { confusion = number_at s confusion_place; angular = number_at s angular_place; parametric = bits 0 };
       guess = guess_at s guess_place;
-      cap = two_at s cap_place;
+      cap = uint_at 2 s cap_place;
     }
 
 -- with surface A read: surface B, then the rest
@@ -113,7 +113,7 @@ with_a s (surface.Refused r) = Refused JobFile
 unfoldable pub job_of : List ℕ → JobRead
 job_of s =
     pick (eqb (length s) job_bytes)
-    (pick (eqb (four_at s 0) following)
+    (pick (eqb (uint_at 4 s 0) following)
     (pick (eqb (byte_at s version_place) 1) (with_a s (surface_at s surface_a_place)) (Refused JobFile))
     (Refused JobFile))
     (Refused JobFile)

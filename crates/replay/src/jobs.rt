@@ -11,7 +11,7 @@ use std::io::Write;
 pub fn written<W: Write>(bytes: &[u8], output: &mut W) -> io::Result<()>
     requires { length bytes.now ≡ record_bytes }
 {
-    let end = 2 + at_most(wire::two(bytes, 0), 400);
+    let end = 2 + at_most(wire::uint::<2>(bytes, 0), 400);
     let mut line = [0u8; answer::line::LINE];
     let count = answer::answer(&bytes[2..end], &mut line);
     output.write_all(&line[..count])
