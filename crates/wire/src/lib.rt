@@ -1,9 +1,9 @@
 //! Big-endian numbers in lent bytes, read and put down: what the file formats are made of.
 #![tactic(auto)]
 
-ghost use Rattle.std.specs.Prelude.{◌≡◌, ◌+◌, ◌^◌, ◌≤◌, ◌<◌, length};
+ghost use Rattle.std.specs.Prelude.{◌≡◌, ◌+◌, ◌*◌, ◌^◌, ◌≤◌, ◌<◌, length};
 ghost use Rattle.loops.specs.Over.{over};
-ghost use Rattle.wire.specs.Wire.{uint_at, number_at, uint_bytes, number_bytes};
+ghost use Rattle.wire.specs.Wire.{uint_at, number_at, numbers_from, uint_bytes, number_bytes, numbers_bytes};
 
 // The number of the N bytes from `at` on, the first of which weighs most. Eight are one load (docs/SPEED.md).
 pub fn uint<const N: usize>(bytes: &[u8], at: usize) -> u64
@@ -27,6 +27,26 @@ pub fn number(bytes: &[u8], at: usize) -> f64
     number::from_bits(uint::<8>(bytes, at))
 }
 
+// Fills the numbers with those that stand from `at` on.
+pub fn fill(numbers: &mut [f64], bytes: &[u8], at: usize)
+    requires { at + 8 * length numbers.old ≤ length bytes.now }
+    ensures { numbers.new ≡ numbers_from bytes.now at (length numbers.old) }
+{
+    for (k, x) in numbers.iter_mut().enumerate() {
+        *x = number(bytes, at + 8 * k);
+    }
+}
+
+// The N numbers from `at` on.
+pub fn numbers<const N: usize>(bytes: &[u8], at: usize) -> [f64; N]
+    requires { at + 8 * N ≤ length bytes.now }
+    ensures { result ≡ numbers_from bytes.now at N }
+{
+    let mut numbers = [0.0; N];
+    fill(&mut numbers, bytes, at);
+    numbers
+}
+
 // Puts the N bytes of a number from `at` on.
 pub fn put_uint<const N: usize>(bytes: &mut [u8], at: usize, x: u64)
     requires there { at + N ≤ length bytes.old }
@@ -43,4 +63,14 @@ pub fn put_number(bytes: &mut [u8], at: usize, x: f64)
     ensures { bytes.new ≡ over bytes.old at (number_bytes x) }
 {
     put_uint::<8>(bytes, at, number::to_bits(x));
+}
+
+// Puts the numbers from `at` on, one behind the other.
+pub fn put_numbers(bytes: &mut [u8], at: usize, numbers: &[f64])
+    requires { at + 8 * length numbers.now ≤ length bytes.old }
+    ensures { bytes.new ≡ over bytes.old at (numbers_bytes numbers.now) }
+{
+    for (k, x) in numbers.iter().enumerate() {
+        put_number(bytes, at + 8 * k, *x);
+    }
 }
