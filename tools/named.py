@@ -72,7 +72,7 @@ def missing_places(text):
         if not said:
             yield f'({crate}/{file})'
         for name in re.findall(r'`([^` ]+)`', names):
-            if not re.search(r'(^|\s|fn )' + re.escape(name) + r'[\s(:]', said):
+            if not re.search(r'(^|\s|fn )' + re.escape(name) + r'[\s(:<]', said):
                 yield f'`{name}` ({crate}/{file})'
 
 

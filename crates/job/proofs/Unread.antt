@@ -7,7 +7,7 @@ use Prim.Native.Nat.{ℕ}
 use lib.Dec.{eqb}
 use lib.ListN.{length}
 use Rattle.loops.specs.Loop.{pick}
-use Rattle.wire.specs.Wire.{byte_at, four_at}
+use Rattle.wire.specs.Wire.{byte_at, uint_at}
 use Rattle.refusal.specs.declared.Refusal.{Refusal}
 use Rattle.refusal.specs.declared.Refusal.TheVariants.{JobFile}
 use Rattle.patch.specs.declared.patch.Patch.{Patch}
@@ -39,4 +39,4 @@ pub unread : (s : List ℕ) (r : Refusal) → job_of s ≡ Err r → r ≡ JobFi
 unfolding job_of Nineteen
 unread s r e =
     subst Nineteen e
-    (either (eqb (length s) job_bytes) _ (either (eqb (four_at s 0) following) _ (either (eqb (byte_at s version_place) 1) _ (with_a_lem s (surface_at s surface_a_place)))))
+    (either (eqb (length s) job_bytes) _ (either (eqb (uint_at 4 s 0) following) _ (either (eqb (byte_at s version_place) 1) _ (with_a_lem s (surface_at s surface_a_place)))))

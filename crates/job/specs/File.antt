@@ -2,7 +2,7 @@
 use Rattle.std.specs.Prelude.{Bool, true, ◌&&◌, ◌||◌, List, ℕ, ◌+◌, eqb, ltb, length, Float, Result, Ok, Err}
 use Rattle.loops.specs.Loop.{pick}
 use Rattle.number.specs.Operators.{bits}
-use Rattle.wire.specs.Wire.{byte_at, two_at, four_at, eight_at, number_at}
+use Rattle.wire.specs.Wire.{byte_at, uint_at, number_at}
 use Rattle.refusal.specs.declared.Refusal.{Refusal}
 use Rattle.refusal.specs.declared.Refusal.TheVariants.{JobFile}
 use Rattle.geometry.specs.declared.point.Point3D.{Point3D}
@@ -79,7 +79,7 @@ unfoldable pub surface_at : List ℕ → ℕ → SurfaceRead
 surface_at s at =
     pick (ltb 4 (byte_at s at)) (Err JobFile)
     (pick (ltb both_marks (byte_at s (at + marks_place))) (Err JobFile)
-    (pick (unused_clear (byte_at s at) (eight_at s (at + first_size_place)) (eight_at s (at + second_size_place)))
+    (pick (unused_clear (byte_at s at) (uint_at 8 s (at + first_size_place)) (uint_at 8 s (at + second_size_place)))
     (Ok (patch_at s at (byte_at s at) (byte_at s (at + marks_place))))
     (Err JobFile)))
 
@@ -101,7 +101,7 @@ job_at s a b =
       b = b;
       tol = record { confusion = number_at s confusion_place; angular = number_at s angular_place; parametric = bits 0 };
       guess = guess_at s guess_place;
-      cap = two_at s cap_place;
+      cap = uint_at 2 s cap_place;
     }
 
 -- with surface A read: surface B, then the rest
@@ -118,7 +118,7 @@ with_a s (Err r) = Err JobFile
 unfoldable pub job_of : List ℕ → JobRead
 job_of s =
     pick (eqb (length s) job_bytes)
-    (pick (eqb (four_at s 0) following)
+    (pick (eqb (uint_at 4 s 0) following)
     (pick (eqb (byte_at s version_place) 1) (with_a s (surface_at s surface_a_place)) (Err JobFile))
     (Err JobFile))
     (Err JobFile)

@@ -119,10 +119,10 @@ fn surface_at(bytes: &[u8], at: usize) -> Result<Patch, Refusal>
     requires { at + surface_bytes ≤ length bytes.now }
     ensures { result ≡ surface_at bytes.now at }
 {
-    let kind = wire::one(bytes, at);
-    let marks = wire::one(bytes, at + layout::MARKS);
-    let first = wire::eight(bytes, at + layout::FIRST_SIZE);
-    let second = wire::eight(bytes, at + layout::SECOND_SIZE);
+    let kind = bytes[at] as u64;
+    let marks = bytes[at + layout::MARKS] as u64;
+    let first = wire::uint::<8>(bytes, at + layout::FIRST_SIZE);
+    let second = wire::uint::<8>(bytes, at + layout::SECOND_SIZE);
     if 4 < kind {
         return Err(Refusal::JobFile);
     }
@@ -164,7 +164,7 @@ fn job_at(bytes: &[u8], a: Patch, b: Patch) -> Job
     let confusion = wire::number(bytes, layout::CONFUSION);
     let angular = wire::number(bytes, layout::ANGULAR);
     let guess = guess_at(bytes, layout::GUESS);
-    let cap = wire::two(bytes, layout::CAP) as usize;
+    let cap = wire::uint::<2>(bytes, layout::CAP) as usize;
     let tol = Tolerance {
         confusion,
         angular,
@@ -186,10 +186,10 @@ pub fn read(bytes: &[u8]) -> Result<Job, Refusal>
     if bytes.len() != layout::JOB_BYTES {
         return Err(Refusal::JobFile);
     }
-    if wire::four(bytes, 0) != layout::FOLLOWING {
+    if wire::uint::<4>(bytes, 0) != layout::FOLLOWING {
         return Err(Refusal::JobFile);
     }
-    if wire::one(bytes, layout::VERSION) != 1 {
+    if bytes[layout::VERSION] != 1 {
         return Err(Refusal::JobFile);
     }
     let Ok(a) = surface_at(bytes, layout::SURFACE_A) else {

@@ -4,11 +4,11 @@ use Rattle.std.specs.Float.{binary64, nan}
 use Rattle.loops.specs.Loop.{pick, ranged}
 use Rattle.loops.specs.Any.{any_in}
 use Rattle.number.specs.Operators.{bits}
-use Rattle.wire.specs.Wire.{eight_at}
+use Rattle.wire.specs.Wire.{uint_at}
 
 -- the eight bytes from `at` on, or 0 where there are fewer
 abbrev pub word_at : List ℕ → ℕ → ℕ
-word_at s at = cond (nat_le (at + 8) (length s)) (eight_at s at) 0
+word_at s at = cond (nat_le (at + 8) (length s)) (uint_at 8 s at) 0
 
 -- a length, or as much as there is room for
 abbrev pub at_most_of : ℕ → ℕ → ℕ

@@ -31,7 +31,7 @@ pub fn word(bytes: &[u8], at: usize) -> u64
     if bytes.len() - 8 < at {
         return 0;
     }
-    wire::eight(bytes, at)
+    wire::uint::<8>(bytes, at)
 }
 
 // A length that a record names, cut to what there is room for.

@@ -8,7 +8,7 @@ const SIZE: usize = 402;
 
 // Writes the line of an input.
 fn written<W: Write>(bytes: &[u8; SIZE], output: &mut W) -> io::Result<()> {
-    let end = 2 + at_most(wire::two(bytes, 0), 400);
+    let end = 2 + at_most(wire::uint::<2>(bytes, 0), 400);
     let mut line = [0u8; answer::line::LINE];
     let count = answer::answer(&bytes[2..end], &mut line);
     output.write_all(&line[..count])

@@ -4,13 +4,13 @@ use mathlib.Core.List.{[], ◌∷◌}
 use mathlib.Core.Bool.{true, false}
 use lib.Ieee.{of_bits, to_bits}
 use Rattle.number.specs.Operators.{bits}
-use Rattle.wire.specs.Wire.{two_bytes, four_bytes, eight_bytes, number_bytes}
+use Rattle.wire.specs.Wire.{uint_bytes, number_bytes}
 use Rattle.groups.specs.Groups.{count_fits}
 use Rattle.trace_file.specs.Layout.{file_bytes, version1, width1}
 use Rattle.trace_file.specs.File.{claim_fits, all_finite, header_of}
 
 unfoldable computing : Unit {0}
-unfolding of_bits to_bits two_bytes four_bytes eight_bytes number_bytes count_fits claim_fits all_finite header_of
+unfolding of_bits to_bits uint_bytes number_bytes count_fits claim_fits all_finite header_of
 computing = tt
 
 -- four points, the last of them the start, closed backward; 4001 points, closed forward

@@ -11,7 +11,7 @@ use lib.ListN.{length, take}
 use borrow.Author.Tests.{leb-true, le-leb, ltb-true, lt-ltb, eqb-true, eq-eqb}
 use Rattle.refusal.specs.declared.Refusal.TheVariants as refusal
 use Rattle.refusal.proofs.Order.{asked_held, first_passed}
-use Rattle.wire.specs.Wire.{byte_at, four_at}
+use Rattle.wire.specs.Wire.{byte_at, uint_at}
 use Rattle.groups.specs.Groups.{least_points, most_points, count_fits, holds_of}
 use Rattle.groups.proofs.Groups.{both, count_fits_lem, fits_count, holds_length}
 use Rattle.trace_file.specs.Layout.{version_place, numbers_place, file_bytes, following, greatest_code, most_width}
@@ -72,7 +72,7 @@ pub record HeaderFit (version w : ℕ) (s : List ℕ) : Type 0 where
   pub there : numbers_place ≤ length s
   pub versioned : byte_at s version_place ≡ version
   pub claim : claim_fits (count_in s) (start_in s) (code_in s) ≡ true
-  pub long : four_at s 0 ≡ following w (count_in s)
+  pub long : uint_at 4 s 0 ≡ following w (count_in s)
   pub bytes : length s ≡ file_bytes w (count_in s)
 
 pub record ReadFit (version w : ℕ) (s : List ℕ) (room : ℕ) : Type 0 where
@@ -85,7 +85,7 @@ module _ (version w : ℕ) (s : List ℕ) where
   unfolding header_fits length_agrees
   header_fits_lem e =
       let claim = claim_fits (count_in s) (start_in s) (code_in s) in
-      let long = eqb (four_at s 0) (following w (count_in s)) in
+      let long = eqb (uint_at 4 s 0) (following w (count_in s)) in
       let whole = eqb (length s) (file_bytes w (count_in s)) in
       let a = both (leb numbers_place (length s)) (eqb (byte_at s version_place) version && (claim && (long && whole))) e in
       let b = both (eqb (byte_at s version_place) version) (claim && (long && whole)) a.1 in
@@ -95,7 +95,7 @@ module _ (version w : ℕ) (s : List ℕ) where
         there = leb-true numbers_place (length s) a.0;
         versioned = eqb-true (byte_at s version_place) version b.0;
         claim = c.0;
-        long = eqb-true (four_at s 0) (following w (count_in s)) d.0;
+        long = eqb-true (uint_at 4 s 0) (following w (count_in s)) d.0;
         bytes = eqb-true (length s) (file_bytes w (count_in s)) d.1;
       }
 
@@ -118,7 +118,7 @@ module _ (version w : ℕ) (s : List ℕ) where
           le-leb numbers_place (length s) h.there,
           eq-eqb (byte_at s version_place) version h.versioned,
           h.claim,
-          eq-eqb (four_at s 0) (following w (count_in s)) h.long,
+          eq-eqb (uint_at 4 s 0) (following w (count_in s)) h.long,
           eq-eqb (length s) (file_bytes w (count_in s)) h.bytes,
           f.finite,
           le-leb (w * count_in s) room f.holds,

@@ -1,7 +1,7 @@
 -- The trace file as a list of bytes, and what is read out of one (02, A1). Definitions only.
 use Rattle.std.specs.Prelude.{Bool, true, ◌&&◌, List, [], ◌∷◌, ◌++◌, ℕ, zero, suc, ◌+◌, ◌*◌, eqb, ltb, leb, length, take, Float}
 use Rattle.std.specs.Float.Ieee.Scale.{finite}
-use Rattle.wire.specs.Wire.{byte_at, two_at, four_at, number_at, one_byte, two_bytes, four_bytes, number_bytes}
+use Rattle.wire.specs.Wire.{byte_at, uint_at, number_at, one_byte, uint_bytes, number_bytes}
 use Rattle.groups.specs.Groups.{count_fits}
 use Rattle.trace_file.specs.Layout.{version_place, count_place, start_place, code_place, numbers_place, file_bytes, following, greatest_code}
 
@@ -20,7 +20,7 @@ all_finite (x ∷ l) = finite x && all_finite l
 
 -- "a 4-byte length of what follows, version byte .., 2-byte count, 2-byte start index, one code byte"
 unfoldable pub header_of : ℕ → ℕ → ℕ → ℕ → ℕ → List ℕ
-header_of version w count start code = four_bytes (following w count) ++ one_byte version ++ two_bytes count ++ two_bytes start ++ one_byte code
+header_of version w count start code = uint_bytes 4 (following w count) ++ one_byte version ++ uint_bytes 2 count ++ uint_bytes 2 start ++ one_byte code
 
 -- numbers one behind the other
 unfoldable pub numbers_bytes : List Float → List ℕ
@@ -35,11 +35,11 @@ file_of version w l count start code = header_of version w count start code ++ n
 
 -- its "2-byte count"
 abbrev pub count_in : List ℕ → ℕ
-count_in s = two_at s count_place
+count_in s = uint_at 2 s count_place
 
 -- its "2-byte start index"
 abbrev pub start_in : List ℕ → ℕ
-start_in s = two_at s start_place
+start_in s = uint_at 2 s start_place
 
 -- its "one code byte"
 abbrev pub code_in : List ℕ → ℕ
@@ -56,7 +56,7 @@ numbers_in w s = numbers_from s numbers_place (w * count_in s)
 
 -- not "a length that doesn't agree with the count and the bytes handed over"
 unfoldable pub length_agrees : ℕ → List ℕ → Bool
-length_agrees w s = eqb (four_at s 0) (following w (count_in s)) && eqb (length s) (file_bytes w (count_in s))
+length_agrees w s = eqb (uint_at 4 s 0) (following w (count_in s)) && eqb (length s) (file_bytes w (count_in s))
 
 -- all that 20 asks of what stands before the numbers: that it is there, its version, its count, start and code, its length
 unfoldable pub header_fits : ℕ → ℕ → List ℕ → Bool

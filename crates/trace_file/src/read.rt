@@ -13,21 +13,21 @@ fn count_in(file: &[u8]) -> usize
     requires { numbers_place ≤ length file.now }
     ensures { (result ≡ count_in file.now) × (result < 65536) }
 {
-    wire::two(file, layout::COUNT) as usize
+    wire::uint::<2>(file, layout::COUNT) as usize
 }
 
 fn start_in(file: &[u8]) -> usize
     requires { numbers_place ≤ length file.now }
     ensures { result ≡ start_in file.now }
 {
-    wire::two(file, layout::START) as usize
+    wire::uint::<2>(file, layout::START) as usize
 }
 
 fn code_in(file: &[u8]) -> usize
     requires { numbers_place ≤ length file.now }
     ensures { result ≡ code_in file.now }
 {
-    wire::one(file, layout::CODE) as usize
+    file[layout::CODE] as usize
 }
 
 // Whether the length agrees with the count and with the bytes handed over.
@@ -36,7 +36,7 @@ fn length_agrees(width: usize, file: &[u8]) -> bool
     ensures { result ≡ length_agrees width file.now }
 {
     let count = count_in(file);
-    wire::four(file, 0) == layout::following(width, count)
+    wire::uint::<4>(file, 0) == layout::following(width, count)
         && file.len() == layout::file_bytes(width, count)
 }
 
@@ -48,7 +48,7 @@ fn header_fits(version: u64, width: usize, file: &[u8]) -> bool
     if file.len() < layout::NUMBERS {
         return false;
     }
-    if wire::one(file, layout::VERSION) != version {
+    if file[layout::VERSION] as u64 != version {
         return false;
     }
     layout::claim_fits(count_in(file), start_in(file), code_in(file)) && length_agrees(width, file)

@@ -44,11 +44,11 @@ fn put_header(file: &mut [u8], version: u64, width: usize, count: usize, start: 
     requires { (numbers_place ≤ length file.old) × ((version < 256) × ((width ≤ most_width) × ((count ≤ most_points) × ((start < count) × (code ≤ greatest_code))))) }
     ensures { file.new ≡ written (header_of version width count start code) file.old }
 {
-    wire::put_four(&mut *file, 0, layout::following(width, count));
-    wire::put_one(&mut *file, layout::VERSION, version);
-    wire::put_two(&mut *file, layout::COUNT, count as u64);
-    wire::put_two(&mut *file, layout::START, start as u64);
-    wire::put_one(&mut *file, layout::CODE, code as u64);
+    wire::put_uint::<4>(&mut *file, 0, layout::following(width, count));
+    file[layout::VERSION] = version as u8;
+    wire::put_uint::<2>(&mut *file, layout::COUNT, count as u64);
+    wire::put_uint::<2>(&mut *file, layout::START, start as u64);
+    file[layout::CODE] = code as u8;
 }
 
 // Puts the first n numbers behind it.

@@ -1,47 +1,22 @@
 //! Big-endian numbers in lent bytes, read and put down: what the file formats are made of.
 #![tactic(auto)]
 
-ghost use Rattle.std.specs.Prelude.{◌≡◌, ◌+◌, ◌≤◌, ◌<◌, length};
+ghost use Rattle.std.specs.Prelude.{◌≡◌, ◌+◌, ◌*◌, ◌^◌, ◌≤◌, ◌<◌, length};
 ghost use Rattle.loops.specs.Over.{over};
-ghost use Rattle.wire.specs.Wire.{byte_at, two_at, four_at, eight_at, number_at, one_byte, two_bytes, four_bytes, eight_bytes, number_bytes};
+ghost use Rattle.wire.specs.Wire.{uint_at, number_at, numbers_from, uint_bytes, number_bytes, numbers_bytes};
 
-// A byte as a wider number, which is below 256.
-fn wide(byte: u8) -> u64
-    ensures { (result ≡ byte) × (result < 256) }
+// The number of the N bytes from `at` on, the first of which weighs most. Eight are one load (docs/SPEED.md).
+pub fn uint<const N: usize>(bytes: &[u8], at: usize) -> u64
+    requires there { at + N ≤ length bytes.now }
+    requires few { N ≤ 8 }
+    ensures value { result ≡ uint_at N bytes.now at }
+    ensures small { result < 256 ^ N }
 {
-    byte as u64
-}
-
-// The byte at `at`.
-pub fn one(bytes: &[u8], at: usize) -> u64
-    requires { at + 1 ≤ length bytes.now }
-    ensures { (result ≡ byte_at bytes.now at) × (result < 256) }
-{
-    wide(bytes[at])
-}
-
-// The two bytes from `at` on.
-pub fn two(bytes: &[u8], at: usize) -> u64
-    requires { at + 2 ≤ length bytes.now }
-    ensures { (result ≡ two_at bytes.now at) × (result < 65536) }
-{
-    one(bytes, at) * 256 + one(bytes, at + 1)
-}
-
-// The four bytes from `at` on.
-pub fn four(bytes: &[u8], at: usize) -> u64
-    requires { at + 4 ≤ length bytes.now }
-    ensures { (result ≡ four_at bytes.now at) × (result < 4294967296) }
-{
-    two(bytes, at) * 65536 + two(bytes, at + 2)
-}
-
-// The eight bytes from `at` on. The low half stands first: so the compiler makes one load of the eight (docs/SPEED.md).
-pub fn eight(bytes: &[u8], at: usize) -> u64
-    requires { at + 8 ≤ length bytes.now }
-    ensures { result ≡ eight_at bytes.now at }
-{
-    four(bytes, at + 4) + four(bytes, at) * 4294967296
+    let mut x = 0;
+    for (k, b) in bytes[at..at + N].iter().rev().enumerate() {
+        x += u64::from(*b) << (8 * k);
+    }
+    x
 }
 
 // The binary64 number whose bits are the eight bytes from `at` on; every NaN pattern is a NaN.
@@ -49,42 +24,37 @@ pub fn number(bytes: &[u8], at: usize) -> f64
     requires { at + 8 ≤ length bytes.now }
     ensures { result ≡ number_at bytes.now at }
 {
-    number::from_bits(eight(bytes, at))
+    number::from_bits(uint::<8>(bytes, at))
 }
 
-// Puts a byte at `at`.
-pub fn put_one(bytes: &mut [u8], at: usize, x: u64)
-    requires { (at + 1 ≤ length bytes.old) × (x < 256) }
-    ensures { bytes.new ≡ over bytes.old at (one_byte x) }
+// Fills the numbers with those that stand from `at` on.
+pub fn fill(numbers: &mut [f64], bytes: &[u8], at: usize)
+    requires { at + 8 * length numbers.old ≤ length bytes.now }
+    ensures { numbers.new ≡ numbers_from bytes.now at (length numbers.old) }
 {
-    bytes[at] = x as u8;
+    for (k, x) in numbers.iter_mut().enumerate() {
+        *x = number(bytes, at + 8 * k);
+    }
 }
 
-// Puts two bytes from `at` on.
-pub fn put_two(bytes: &mut [u8], at: usize, x: u64)
-    requires { (at + 2 ≤ length bytes.old) × (x < 65536) }
-    ensures { bytes.new ≡ over bytes.old at (two_bytes x) }
+// The N numbers from `at` on.
+pub fn numbers<const N: usize>(bytes: &[u8], at: usize) -> [f64; N]
+    requires { at + 8 * N ≤ length bytes.now }
+    ensures { result ≡ numbers_from bytes.now at N }
 {
-    put_one(&mut *bytes, at, x / 256);
-    put_one(&mut *bytes, at + 1, x % 256);
+    let mut numbers = [0.0; N];
+    fill(&mut numbers, bytes, at);
+    numbers
 }
 
-// Puts four bytes from `at` on.
-pub fn put_four(bytes: &mut [u8], at: usize, x: u64)
-    requires { (at + 4 ≤ length bytes.old) × (x < 4294967296) }
-    ensures { bytes.new ≡ over bytes.old at (four_bytes x) }
+// Puts the N bytes of a number from `at` on.
+pub fn put_uint<const N: usize>(bytes: &mut [u8], at: usize, x: u64)
+    requires there { at + N ≤ length bytes.old }
+    requires few { N ≤ 8 }
+    requires fits { x < 256 ^ N }
+    ensures { bytes.new ≡ over bytes.old at (uint_bytes N x) }
 {
-    put_two(&mut *bytes, at, x / 65536);
-    put_two(&mut *bytes, at + 2, x % 65536);
-}
-
-// Puts eight bytes from `at` on.
-pub fn put_eight(bytes: &mut [u8], at: usize, x: u64)
-    requires { at + 8 ≤ length bytes.old }
-    ensures { bytes.new ≡ over bytes.old at (eight_bytes x) }
-{
-    put_four(&mut *bytes, at, x / 4294967296);
-    put_four(&mut *bytes, at + 4, x % 4294967296);
+    bytes[at..at + N].copy_from_slice(&x.to_be_bytes()[8 - N..]);
 }
 
 // Puts the eight bytes of a number's bits from `at` on; every NaN has one pattern.
@@ -92,5 +62,15 @@ pub fn put_number(bytes: &mut [u8], at: usize, x: f64)
     requires { at + 8 ≤ length bytes.old }
     ensures { bytes.new ≡ over bytes.old at (number_bytes x) }
 {
-    put_eight(&mut *bytes, at, number::to_bits(x));
+    put_uint::<8>(bytes, at, number::to_bits(x));
+}
+
+// Puts the numbers from `at` on, one behind the other.
+pub fn put_numbers(bytes: &mut [u8], at: usize, numbers: &[f64])
+    requires { at + 8 * length numbers.now ≤ length bytes.old }
+    ensures { bytes.new ≡ over bytes.old at (numbers_bytes numbers.now) }
+{
+    for (k, x) in numbers.iter().enumerate() {
+        put_number(bytes, at + 8 * k, *x);
+    }
 }

@@ -3,4 +3,4 @@ use Rattle.wire.proofs.number.Goals as goal
 
 pub returns : goal.returns
 unfolding number_at
-returns c = rw (c.from_bits.ensures, c.eight.ensures)
+returns c = rw (c.from_bits.ensures, c.uint.ensures.value)
