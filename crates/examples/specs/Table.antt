@@ -1,5 +1,5 @@
 -- The rows of the paper's charted examples marked (P), each a field whose comment is the paper's sentence. Definitions only.
-use Rattle.std.specs.Prelude.{◌≡◌, List, [], ◌∷◌, ◌++◌, ℕ, ◌-◌, false, negsuc, replicate, true, Float, Some, Ok}
+use Rattle.std.specs.Prelude.{◌≡◌, List, [], ◌∷◌, ◌++◌, ℕ, ◌-◌, true, false, negsuc, replicate, Float, Some, None, Ok, Err}
 use Prim.Native.Nat as nat
 use Rattle.std.specs.Float.{fin, binary64}
 use Rattle.std.specs.Float.Ieee.{to_bits}
@@ -22,9 +22,7 @@ use Rattle.analytic.specs.declared.surface.Surface.TheVariants.{Plane, Cylinder}
 use Rattle.analytic.specs.Surface.{eval_point}
 use Rattle.sqrt.specs.Sqrt.{sqrt_of}
 use Rattle.solve.specs.Cramer.{solve2_of}
-use Rattle.solve.specs.Solve.{solve3_of}
-use Rattle.solve.specs.declared.cramer.Solved2.TheVariants as solved2
-use Rattle.solve.specs.declared.Solved3.TheVariants as solved3
+use Rattle.solve.specs.Solve.{solve_of, singular}
 use Rattle.groups.specs.Traced.{Outcome, refusal_of, round_of, column_of}
 use Rattle.walk.specs.Trace.{trace_of}
 
@@ -150,12 +148,12 @@ pub record Table : Type 0 where
   pub row4 : sqrt_of (two_to_minus 1074) ≡ two_to_minus 537
   -- "`solve_2x2` of rows (2,0), (0,4), right side (2,4): (1,1). Rows (1,1), (1,1): gives up." ("tol is 1e-12 throughout")
   pub row5 :
-      (solve2_of ((two ∷ positive_zero ∷ []) ∷ (positive_zero ∷ four ∷ []) ∷ []) (two ∷ four ∷ []) 1e-12 ≡ solved2.Solution (record { x0 = one; x1 = one }))
-      × ((right : List Float) → solve2_of ((one ∷ one ∷ []) ∷ (one ∷ one ∷ []) ∷ []) right 1e-12 ≡ solved2.Singular)
+      (solve2_of ((two ∷ positive_zero ∷ []) ∷ (positive_zero ∷ four ∷ []) ∷ []) (two ∷ four ∷ []) 1e-12 ≡ Some (one ∷ one ∷ []))
+      × ((right : List Float) → solve2_of ((one ∷ one ∷ []) ∷ (one ∷ one ∷ []) ∷ []) right 1e-12 ≡ None)
   -- "Diagonal (1, 1, 4e-12), right side (1, 2, 4e-12): (1, 2, 1). Diagonal (1, 1, 1e-12): gives up." (02, A3: at column 2)
   pub row6 :
-      (solve3_of (diagonal one one 4e-12) (one ∷ two ∷ 4e-12 ∷ []) 1e-12 ≡ solved3.Solution (record { x0 = one; x1 = two; x2 = one }))
-      × ((right : List Float) → solve3_of (diagonal one one 1e-12) right 1e-12 ≡ solved3.Singular 2)
+      (solve_of 3 (diagonal one one 4e-12) (one ∷ two ∷ 4e-12 ∷ []) 1e-12 ≡ Ok (one ∷ two ∷ one ∷ []))
+      × ((right : List Float) → solve_of 3 (diagonal one one 1e-12) right 1e-12 ≡ singular 2)
   -- "Windows all 0 to 1, no marks, from 0.5 four times to (1.5, 0.5, 1.5, 0.5): leaves at index 0, bound 1. To (1.5, 0.5, 0.5, -1.5):
   -- index 3, bound 0."
   pub row7 :

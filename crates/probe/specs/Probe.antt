@@ -1,15 +1,10 @@
 -- What a probe answers and writes. Definitions only.
-use Rattle.std.specs.Prelude.{List, [], ◌∷◌, ℕ, zero, suc, ◌+◌, ◌*◌, eqb, ltb, length, get_or, set, Float}
+use Rattle.std.specs.Prelude.{List, [], ◌∷◌, ℕ, zero, suc, ◌+◌, ◌*◌, eqb, ltb, length, get_or, Float, Option, Some, None, Ok, Err}
 use Rattle.std.specs.Float.{nan}
 use Rattle.loops.specs.Loop.{pick}
+use Rattle.loops.specs.Over.{written}
 use Rattle.solve.specs.Cramer.{solve2_of}
-use Rattle.solve.specs.Solve.{solve3_of, solve4_of}
-use Rattle.solve.specs.declared.cramer.Solved2.{Solved2}
-use Rattle.solve.specs.declared.cramer.Solved2.TheVariants as solved2
-use Rattle.solve.specs.declared.Solved3.{Solved3}
-use Rattle.solve.specs.declared.Solved3.TheVariants as solved3
-use Rattle.solve.specs.declared.Solved4.{Solved4}
-use Rattle.solve.specs.declared.Solved4.TheVariants as solved4
+use Rattle.solve.specs.Solve.{Solved, solve_of}
 
 -- n numbers of the input, from at on
 abbrev pub numbers_from : ℕ → ℕ → List Float → List Float
@@ -34,33 +29,27 @@ probed w out = record { word = w; output = out }
 abbrev pub or_short : ℕ → ℕ → List Float → List Float → Probed → Probed
 or_short least room s t p = pick (ltb (length s) least) (probed 9 t) (pick (ltb (length t) room) (probed 9 t) p)
 
--- 1 and the two unknowns, or 0
-abbrev pub written2 : Solved2 → List Float → Probed
-written2 (solved2.Solution x) t = probed 1 (set (set t 0 x.x0) 1 x.x1)
-written2 solved2.Singular t = probed 0 t
+-- 1 and the two unknowns at the output's front, or 0
+abbrev pub written2 : Option (List Float) → List Float → Probed
+written2 (Some x) t = probed 1 (written x t)
+written2 None t = probed 0 t
 
 -- `solve_2x2` of four numbers by rows, two on the right side, tol
 unfoldable pub probe2_of : List Float → List Float → Probed
 probe2_of s t = or_short 7 2 s t (written2 (solve2_of (matrix_from 2 2 0 s) (numbers_from 2 4 s) (get_or s 6 nan)) t)
 
--- 1 and the three unknowns, or 2^8 times the column
-abbrev pub written3 : Solved3 → List Float → Probed
-written3 (solved3.Solution x) t = probed 1 (set (set (set t 0 x.x0) 1 x.x1) 2 x.x2)
-written3 (solved3.Singular col) t = probed (col * 256) t
+-- 1 and the unknowns at the output's front, or 2^8 times the column
+abbrev pub written_square : Solved → List Float → Probed
+written_square (Ok x) t = probed 1 (written x t)
+written_square (Err e) t = probed (e.column * 256) t
 
--- `solve_3x3`, likewise
-unfoldable pub probe3_of : List Float → List Float → Probed
-probe3_of s t = or_short 13 3 s t (written3 (solve3_of (matrix_from 3 3 0 s) (numbers_from 3 9 s) (get_or s 12 nan)) t)
-
--- 1 and the four unknowns, or 2^8 times the column
-abbrev pub written4 : Solved4 → List Float → Probed
-written4 (solved4.Solution x) t = probed 1 (set (set (set (set t 0 x.x0) 1 x.x1) 2 x.x2) 3 x.x3)
-written4 (solved4.Singular col) t = probed (col * 256) t
-
--- `solve_4x4`, likewise
-unfoldable pub probe4_of : List Float → List Float → Probed
-probe4_of s t = or_short 21 4 s t (written4 (solve4_of (matrix_from 4 4 0 s) (numbers_from 4 16 s) (get_or s 20 nan)) t)
+-- `solve_square` of n unknowns, likewise
+unfoldable pub probe_square_of : ℕ → List Float → List Float → Probed
+probe_square_of n s t =
+    or_short (n * n + n + 1) n s t
+    (written_square (solve_of n (matrix_from n n 0 s) (numbers_from n (n * n) s) (get_or s (n * n + n) nan)) t)
 
 -- by the number of unknowns; 9 where no solver has so many
 unfoldable pub probe_of : ℕ → List Float → List Float → Probed
-probe_of n s t = pick (eqb n 2) (probe2_of s t) (pick (eqb n 3) (probe3_of s t) (pick (eqb n 4) (probe4_of s t) (probed 9 t)))
+probe_of n s t =
+    pick (eqb n 2) (probe2_of s t) (pick (eqb n 3) (probe_square_of 3 s t) (pick (eqb n 4) (probe_square_of 4 s t) (probed 9 t)))

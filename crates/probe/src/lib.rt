@@ -9,14 +9,32 @@ mod call;
 pub mod steps;
 pub mod surface;
 
-ghost use Rattle.std.specs.Prelude.{◌≡◌, ◌+◌, ◌≤◌, length};
-ghost use Rattle.probe.specs.Probe.{numbers_from, probed, probe2_of, probe3_of, probe4_of, probe_of};
+ghost use Rattle.std.specs.Prelude.{◌≡◌, ◌+◌, ◌*◌, ◌<◌, ◌≤◌, length};
+ghost use Rattle.probe.specs.Probe.{numbers_from, matrix_from, probed, probe2_of, probe_square_of, probe_of};
 
-fn row2(input: &[f64], at: usize) -> [f64; 2]
-    requires { at + 2 ≤ length input.now }
-    ensures { result ≡ numbers_from 2 at input.now }
+use solve::cramer::solve_2x2;
+use solve::solve_square;
+
+// N numbers, from `at` on.
+fn numbers<const N: usize>(input: &[f64], at: usize) -> [f64; N]
+    requires { at + N ≤ length input.now }
+    ensures { result ≡ numbers_from N at input.now }
 {
-    [input[at], input[at + 1]]
+    let mut numbers = [0.0; N];
+    numbers.copy_from_slice(&input[at..at + N]);
+    numbers
+}
+
+// The N rows of a matrix.
+fn matrix<const N: usize>(input: &[f64]) -> [[f64; N]; N]
+    requires { N * N ≤ length input.now }
+    ensures { result ≡ matrix_from N N 0 input.now }
+{
+    let mut rows = [[0.0; N]; N];
+    for (k, row) in rows.iter_mut().enumerate() {
+        *row = numbers(input, N * k);
+    }
+    rows
 }
 
 fn probe_2x2(input: &[f64], output: &mut [f64]) -> u64
@@ -28,86 +46,31 @@ fn probe_2x2(input: &[f64], output: &mut [f64]) -> u64
     if output.len() < 2 {
         return 9;
     }
-    let r0 = row2(input, 0);
-    let r1 = row2(input, 2);
-    let b = row2(input, 4);
-    let a = [r0, r1];
-    let solved = solve::cramer::solve_2x2(a, b, input[6]);
-    match solved {
-        solve::cramer::Solved2::Solution(x) => {
-            output[0] = x.x0;
-            output[1] = x.x1;
+    let Some(x) = solve_2x2(matrix(input), numbers(input, 4), input[6]) else {
+        return 0;
+    };
+    output[..2].copy_from_slice(&x);
+    1
+}
+
+fn probe_square<const N: usize>(input: &[f64], output: &mut [f64]) -> u64
+    requires { (0 < N) × (N ≤ 4) }
+    ensures { probed result output.new ≡ probe_square_of N input.now output.old }
+{
+    let right = N * N;
+    let tol = right + N;
+    if input.len() < tol + 1 {
+        return 9;
+    }
+    if output.len() < N {
+        return 9;
+    }
+    match solve_square::<N>(matrix(input), numbers(input, right), input[tol]) {
+        Ok(x) => {
+            output[..N].copy_from_slice(&x);
             1
         }
-        solve::cramer::Solved2::Singular => 0,
-    }
-}
-
-fn row3(input: &[f64], at: usize) -> [f64; 3]
-    requires { at + 3 ≤ length input.now }
-    ensures { result ≡ numbers_from 3 at input.now }
-{
-    [input[at], input[at + 1], input[at + 2]]
-}
-
-fn probe_3x3(input: &[f64], output: &mut [f64]) -> u64
-    ensures { probed result output.new ≡ probe3_of input.now output.old }
-{
-    if input.len() < 13 {
-        return 9;
-    }
-    if output.len() < 3 {
-        return 9;
-    }
-    let r0 = row3(input, 0);
-    let r1 = row3(input, 3);
-    let r2 = row3(input, 6);
-    let b = row3(input, 9);
-    let a = [r0, r1, r2];
-    let solved = solve::solve_3x3(a, b, input[12]);
-    match solved {
-        solve::Solved3::Solution(x) => {
-            output[0] = x.x0;
-            output[1] = x.x1;
-            output[2] = x.x2;
-            1
-        }
-        solve::Solved3::Singular(column) => column * 256,
-    }
-}
-
-fn row4(input: &[f64], at: usize) -> [f64; 4]
-    requires { at + 4 ≤ length input.now }
-    ensures { result ≡ numbers_from 4 at input.now }
-{
-    [input[at], input[at + 1], input[at + 2], input[at + 3]]
-}
-
-fn probe_4x4(input: &[f64], output: &mut [f64]) -> u64
-    ensures { probed result output.new ≡ probe4_of input.now output.old }
-{
-    if input.len() < 21 {
-        return 9;
-    }
-    if output.len() < 4 {
-        return 9;
-    }
-    let r0 = row4(input, 0);
-    let r1 = row4(input, 4);
-    let r2 = row4(input, 8);
-    let r3 = row4(input, 12);
-    let b = row4(input, 16);
-    let a = [r0, r1, r2, r3];
-    let solved = solve::solve_4x4(a, b, input[20]);
-    match solved {
-        solve::Solved4::Solution(x) => {
-            output[0] = x.x0;
-            output[1] = x.x1;
-            output[2] = x.x2;
-            output[3] = x.x3;
-            1
-        }
-        solve::Solved4::Singular(column) => column * 256,
+        Err(e) => e.column * 256,
     }
 }
 
@@ -115,14 +78,10 @@ fn probe_4x4(input: &[f64], output: &mut [f64]) -> u64
 pub fn probe_solve(size: u64, input: &[f64], output: &mut [f64]) -> u64
     ensures { probed result output.new ≡ probe_of size input.now output.old }
 {
-    if size == 2 {
-        return probe_2x2(input, output);
+    match size {
+        2 => probe_2x2(input, output),
+        3 => probe_square::<3>(input, output),
+        4 => probe_square::<4>(input, output),
+        _ => 9,
     }
-    if size == 3 {
-        return probe_3x3(input, output);
-    }
-    if size == 4 {
-        return probe_4x4(input, output);
-    }
-    9
 }
