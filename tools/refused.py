@@ -38,7 +38,7 @@ import threading
 
 # Strong: the prover shows what is unequal, what is left to prove, or that values break it.
 STRONG = {
-    'unequal goal': re.compile(r'the two types (?:first differ|differ only|are)\b|≟ `.*`:? does not hold'),
+    'unequal goal': re.compile(r'the two (?:types|sides) (?:first differ|differ only|are)\b|≟ `.*`:? does not hold'),
     'unequal type': re.compile(r'expected type `(?!goal\.(?!the-asks-))'),
     'goal left by rewriting': re.compile(r'give a proof of that as the last argument'),
     'counterexample': re.compile(r'All of that holds, and (?:the goal|the part|it) fails|the facts known there allow values'),
