@@ -9,7 +9,7 @@ ghost use Rattle.std.specs.Prelude.{◌≡◌};
 ghost use Rattle.groups.specs.Groups.{width, count_fits, holds_of};
 
 pub use row::Row;
-pub use traced::{Closing, Traced};
+pub use traced::{Claim, Closing, Traced};
 
 // How many numbers a point has: x, y, z, then u, v on the first surface and u, v on the second.
 pub const WIDTH: usize = 7;

@@ -40,3 +40,12 @@ pub struct Traced {
     pub start: usize,
     pub closing: Closing,
 }
+
+// What is claimed of a trace handed in: how many points it has, which of them is the start, and its closing code. They may be any numbers:
+// 12 and 20 refuse what no trace has.
+#[derive(Clone, Copy)]
+pub struct Claim {
+    pub count: usize,
+    pub start: usize,
+    pub code: usize,
+}
