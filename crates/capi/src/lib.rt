@@ -18,7 +18,7 @@ ghost use Rattle.trace_file.specs.Write.{bytes_of};
 
 use boxes::Aabb;
 use geometry::{Point3D, Tolerance};
-use groups::Traced;
+use groups::{Claim, Traced};
 use patch::Patch;
 use refusal::Refusal;
 
@@ -229,13 +229,12 @@ fn written_word(answer: Result<usize, Refusal>) -> u64
 pub fn geomcore_write_v1(buffer: &[f64], count: u64, start: u64, code: u64, file: &mut [u8]) -> u64
     ensures { WriteWord buffer.now count start code file.old file.new result }
 {
-    written_word(geomcore::call::write_v1(
-        buffer,
-        count as usize,
-        start as usize,
-        code as usize,
-        file,
-    ))
+    let claim = Claim {
+        count: count as usize,
+        start: start as usize,
+        code: code as usize,
+    };
+    written_word(geomcore::call::write_v1(buffer, claim, file))
 }
 
 // Reads a trace file of version 1 into the front of the buffer. The word is the trace's: count, start and code, or the refusal's number.

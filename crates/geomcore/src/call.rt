@@ -3,7 +3,7 @@ ghost use Rattle.passing.specs.Promises.{PointPromise, TracePromise, CheckPromis
 
 use boxes::Aabb;
 use geometry::{Point3D, Tolerance};
-use groups::Traced;
+use groups::{Claim, Traced};
 use patch::{Parameters, Patch};
 use refusal::Refusal;
 
@@ -69,22 +69,16 @@ pub fn crossing(tol: Tolerance, points: &[f64], count: usize, b: Aabb) -> Result
     boxes::crossing::crossing(tol, points, count, b)
 }
 
-// The trace of `count` points at the front of the list, written to the front of the lent bytes as a file of version 1, seven numbers a
+// The trace that is claimed at the front of the list, written to the front of the lent bytes as a file of version 1, seven numbers a
 // point: how many bytes it has, 10 + 56 for each point. Refused, in this order: 20 a count outside 4 to 4001, a start index not below it
 // or a code above 2; 8 fewer than 7 numbers for each point, or fewer bytes than the file has; 20 a number that is not finite.
 //
 // A refusal writes nothing, and nothing beyond the file changes. Read into room enough the file gives the trace back, bit for bit. A
 // trace that passes the check is refused at most by 8.
-pub fn write_v1(
-    trace: &[f64],
-    count: usize,
-    start: usize,
-    closing: usize,
-    file: &mut [u8],
-) -> Result<usize, Refusal>
-    ensures { WriteV1Promise trace.now count start closing file.old file.new result }
+pub fn write_v1(trace: &[f64], claim: Claim, file: &mut [u8]) -> Result<usize, Refusal>
+    ensures { WriteV1Promise trace.now claim.count claim.start claim.code file.old file.new result }
 {
-    trace_file::write::write_v1(trace, count, start, closing, &mut *file)
+    trace_file::write::write_v1(trace, claim, &mut *file)
 }
 
 // The trace of a file of version 1, its numbers at the front of the list, seven a point. Refused: 20 for bytes that are no such file (a

@@ -11,7 +11,8 @@ use lib.Seq.{length-take-le, take_all}
 use Rattle.loops.specs.Over.{written}
 use Rattle.loops.proofs.Over.{take_written, length_written}
 use Rattle.number.proofs.Binary64.{Binary64, take_fits}
-use Rattle.wire.specs.Wire.{AllBytes}
+use Rattle.wire.specs.Wire.{AllBytes, numbers_from, numbers_bytes}
+use Rattle.wire.proofs.Several.{from_length}
 use Rattle.refusal.specs.declared.Numbers.{Numbers}
 use Rattle.refusal.specs.declared.Refusal.TheVariants as refusal
 use Rattle.refusal.specs.Verdict.{Verdict}
@@ -22,10 +23,10 @@ use Rattle.groups.proofs.Closings as closings
 use Rattle.groups.specs.Traced.{closing_at, traced, Outcome, outcome, refusal_of, count_of, start_of, round_of, column_of, closing_of}
 use Rattle.groups.specs.Groups.{most_points}
 use Rattle.trace_file.specs.Layout.{numbers_place, greatest_code, most_width}
-use Rattle.trace_file.specs.File.{file_of, count_in, start_in, code_in, numbers_from, numbers_in, header_of, numbers_bytes, header_fits, all_finite}
+use Rattle.trace_file.specs.File.{file_of, count_in, start_in, code_in, numbers_in, header_of, header_fits, all_finite}
 use Rattle.trace_file.specs.Write.{filed, bytes_of, write_fitness, after_writing, write_of}
 use Rattle.trace_file.specs.Read.{after_reading, read_tests, read_fitness, read_of}
-use Rattle.trace_file.proofs.Numbers.{product_small, from_length, numbers_back, numbers_again}
+use Rattle.trace_file.proofs.Numbers.{product_small, numbers_back, numbers_again}
 use Rattle.trace_file.proofs.Header.{version_back, count_back, start_back, code_back, length_back, behind_header, file_length, header_again}
 use Rattle.trace_file.proofs.Fitness.{claim_fits_lem, WriteFit, write_fit, fit_write, ReadFit, read_fit, fit_read}
 

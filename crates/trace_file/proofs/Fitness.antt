@@ -1,24 +1,31 @@
 -- What a call has that refuses nothing, and that nothing else is asked.
-use Rattle.std.specs.Prelude.{Ok}
-use mathlib.Core.Path.{◌≡◌, sym, ◌∙◌}
-use mathlib.Core.Bool.{Bool, true, ◌&&◌}
+use Rattle.std.specs.Prelude.{Result, Ok, Err}
+use mathlib.Core.Path.{◌≡◌, refl, sym, ap, ◌∙◌}
+use mathlib.Core.Bool.{Bool, true, false, ◌&&◌}
 use mathlib.Core.List.{List}
-use Prim.Native.Nat.{ℕ, ◌*◌, ◌≤◌, ◌<◌}
+use Prim.Native.Nat.{ℕ, ◌-◌, ◌*◌, ◌/◌, ◌≤◌, ◌<◌}
 use native.Mathlib.Omega.{arith}
 use lib.Dec.{eqb, ltb, leb}
 use lib.Ieee.{Float}
+use lib.Ieee.Scale.{finite}
+use Rattle.std.specs.List.{list_all}
 use lib.ListN.{length, take}
 use borrow.Author.Tests.{leb-true, le-leb, ltb-true, lt-ltb, eqb-true, eq-eqb}
+use Rattle.refusal.specs.declared.Refusal.{Refusal}
 use Rattle.refusal.specs.declared.Refusal.TheVariants as refusal
-use Rattle.refusal.proofs.Order.{asked_held, first_passed}
-use Rattle.wire.specs.Wire.{byte_at, uint_at}
+use Rattle.refusal.specs.Verdict.{Verdict, asked}
+use Rattle.refusal.proofs.Order.{asked_held, asked_failed, first_passed}
+use Rattle.wire.specs.Wire.{byte_at, uint_at, numbers_from}
+use Rattle.trace_file.proofs.Numbers.{finite_listed}
 use Rattle.groups.specs.Groups.{least_points, most_points, count_fits, holds_of}
 use Rattle.groups.proofs.Groups.{both, count_fits_lem, fits_count, holds_length}
-use Rattle.trace_file.specs.Layout.{version_place, numbers_place, file_bytes, following, greatest_code, most_width}
+use Rattle.groups.specs.Traced.{closing_at}
+use Rattle.trace_file.specs.declared.head.Head.{Head}
+use Rattle.trace_file.specs.Head.{head_where}
+use Rattle.trace_file.specs.Layout.{version_place, numbers_place, file_bytes, following, greatest_code}
 use Rattle.trace_file.specs.File.{claim_fits, all_finite, count_in, start_in, code_in, numbers_in, length_agrees, header_fits}
 use Rattle.trace_file.specs.Write.{write_tests, write_fitness}
 use Rattle.trace_file.specs.Read.{read_tests, read_fitness}
-use Rattle.trace_file.proofs.Numbers.{product_small}
 
 -- ---- the count, the start's index and the code
 
@@ -35,12 +42,30 @@ module _ {count start code : ℕ} where
   unfolding claim_fits
   fits_claim a b c d = rw (fits_count count a b, lt-ltb start count c, le-leb code greatest_code d)
 
--- so no product is too large
-pub small : (w count start code : ℕ) {b : Bool} → w ≤ most_width → b ≡ claim_fits count start code → b ≡ true → (count < 65536) × (w * count ≤ 1048576)
-small w count start code h e t =
-    let k = claim_fits_lem (sym e ∙ t) in
-    let n : count < 65536 = omega (arith, k.1) in
-    (n, product_small w count h n)
+-- ---- the head that is made of them
+
+module _ {b : Bool} (count start code : ℕ) {r : Result Head Refusal} (e : r ≡ head_where b count start code) where
+  pub head_given : {h : Head} → r ≡ Ok h → (b ≡ true) × (h ≡ record { count = count; start = start; closing = closing_at code })
+  head_given {h} f = go b (sym e ∙ f)
+    where
+      go : (t : Bool) → head_where t count start code ≡ Ok h → (t ≡ true) × (h ≡ record { count = count; start = start; closing = closing_at code })
+      go true g = (refl, cc)
+      go false g = cc
+
+  pub head_refused : {q : Refusal} → r ≡ Err q → (b ≡ false) × (q ≡ refusal.TraceFile)
+  head_refused {q} f = go b (sym e ∙ f)
+    where
+      go : (t : Bool) → head_where t count start code ≡ Err q → (t ≡ false) × (q ≡ refusal.TraceFile)
+      go true g = cc
+      go false g = (refl, cc)
+
+-- ---- a test, by the code's answer to it
+
+pub test_held : (r : Refusal) {b t : Bool} {v : Verdict} {u : Unit {0}} → v ≡ asked b r → v ≡ Ok u → b ≡ t → t ≡ true
+test_held r {b} e f g = sym g ∙ asked_held b r (sym e ∙ f)
+
+pub test_failed : (r : Refusal) {b t : Bool} {v : Verdict} {q : Refusal} → v ≡ asked b r → v ≡ Err q → b ≡ t → (t ≡ false) × (q ≡ r)
+test_failed r {b} e f g = let n = asked_failed b r (sym e ∙ f) in (sym g ∙ n.0, n.1)
 
 -- ---- the writer's tests
 
@@ -98,6 +123,12 @@ module _ (version w : ℕ) (s : List ℕ) where
         long = eqb-true (uint_at 4 s 0) (following w (count_in s)) d.0;
         bytes = eqb-true (length s) (file_bytes w (count_in s)) d.1;
       }
+
+  -- all that stands behind its head is its numbers
+  pub finite_read : HeaderFit version w s → {b : Bool} → b ≡ list_all finite (numbers_from s numbers_place ((length s - numbers_place) / 8)) → b ≡ all_finite (numbers_in w s)
+  finite_read h e =
+      let n : (length s - numbers_place) / 8 ≡ w * count_in s = let b = h.bytes in omega (arith, b) in
+      e ∙ ap (λ (k : ℕ). list_all finite (numbers_from s numbers_place k)) n ∙ sym (finite_listed (numbers_in w s))
 
   module _ (room : ℕ) where
     pub read_fit : read_fitness version w s room ≡ Ok tt → ReadFit version w s room

@@ -8,11 +8,11 @@ use lib.ListN.{length, take, drop, length-append}
 use lib.Seq.{length-take-le, take-add}
 use Rattle.loops.specs.Over.{over, written}
 use Rattle.loops.proofs.Over.{over_next, over_front, written_over}
-use Rattle.wire.specs.Wire.{byte_at, uint_at, one_byte, uint_bytes, AllBytes}
+use Rattle.wire.specs.Wire.{byte_at, uint_at, one_byte, uint_bytes, numbers_bytes, AllBytes}
 use Rattle.wire.proofs.Laws.{uint_length, byte_back, uint_back, byte_again, uint_again}
 use Rattle.trace_file.specs.Layout.{version_place, numbers_place, file_bytes, following}
-use Rattle.trace_file.specs.File.{header_of, numbers_bytes, file_of, count_in, start_in, code_in}
-use Rattle.trace_file.proofs.Numbers.{numbers_length}
+use Rattle.trace_file.specs.File.{header_of, file_of, count_in, start_in, code_in}
+use Rattle.wire.proofs.Several.{numbers_length}
 
 pub header_length : (version w count start code : ℕ) → length (header_of version w count start code) ≡ numbers_place
 unfolding header_of uint_bytes

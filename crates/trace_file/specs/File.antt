@@ -1,7 +1,7 @@
 -- The trace file as a list of bytes, and what is read out of one (02, A1). Definitions only.
-use Rattle.std.specs.Prelude.{Bool, true, ◌&&◌, List, [], ◌∷◌, ◌++◌, ℕ, zero, suc, ◌+◌, ◌*◌, eqb, ltb, leb, length, take, Float}
+use Rattle.std.specs.Prelude.{Bool, true, ◌&&◌, List, [], ◌∷◌, ◌++◌, ℕ, ◌*◌, eqb, ltb, leb, length, take, Float}
 use Rattle.std.specs.Float.Ieee.Scale.{finite}
-use Rattle.wire.specs.Wire.{byte_at, uint_at, number_at, one_byte, uint_bytes, number_bytes}
+use Rattle.wire.specs.Wire.{byte_at, uint_at, numbers_from, one_byte, uint_bytes, numbers_bytes}
 use Rattle.groups.specs.Groups.{count_fits}
 use Rattle.trace_file.specs.Layout.{version_place, count_place, start_place, code_place, numbers_place, file_bytes, following, greatest_code}
 
@@ -22,11 +22,6 @@ all_finite (x ∷ l) = finite x && all_finite l
 unfoldable pub header_of : ℕ → ℕ → ℕ → ℕ → ℕ → List ℕ
 header_of version w count start code = uint_bytes 4 (following w count) ++ one_byte version ++ uint_bytes 2 count ++ uint_bytes 2 start ++ one_byte code
 
--- numbers one behind the other
-unfoldable pub numbers_bytes : List Float → List ℕ
-numbers_bytes [] = []
-numbers_bytes (x ∷ l) = number_bytes x ++ numbers_bytes l
-
 -- the file: "then seven 8-byte numbers a point", here w, from the head of a list
 unfoldable pub file_of : ℕ → ℕ → List Float → ℕ → ℕ → ℕ → List ℕ
 file_of version w l count start code = header_of version w count start code ++ numbers_bytes (take (w * count) l)
@@ -44,11 +39,6 @@ start_in s = uint_at 2 s start_place
 -- its "one code byte"
 abbrev pub code_in : List ℕ → ℕ
 code_in s = byte_at s code_place
-
--- n numbers from byte `at` on
-unfoldable pub numbers_from : List ℕ → ℕ → ℕ → List Float
-numbers_from s at zero = []
-numbers_from s at (suc n) = number_at s at ∷ numbers_from s (at + 8) n
 
 -- the numbers of its points
 abbrev pub numbers_in : ℕ → List ℕ → List Float

@@ -1,4 +1,5 @@
 pub mod Layout
 pub mod File
+pub mod Head
 pub mod Write
 pub mod Read

@@ -1,105 +1,46 @@
-ghost use Rattle.std.specs.Prelude.{◌≡◌, ◌+◌, ◌*◌, ◌≤◌, ◌<◌, length};
-ghost use Rattle.loops.specs.Over.{written};
+ghost use Rattle.std.specs.Prelude.{◌≡◌};
 ghost use Rattle.groups.specs.Traced.{outcome};
-ghost use Rattle.trace_file.specs.Layout.{numbers_place, most_width, version1, width1};
-ghost use Rattle.trace_file.specs.File.{count_in, start_in, code_in, length_agrees, header_fits, numbers_from, all_finite};
-ghost use Rattle.trace_file.specs.Read.{read_fitness, read_of};
+ghost use Rattle.trace_file.specs.Layout.{version1, width1};
+ghost use Rattle.trace_file.specs.File.{count_in, start_in, code_in, header_fits};
+ghost use Rattle.trace_file.specs.Head.{head_where};
+ghost use Rattle.trace_file.specs.Read.{read_of};
 
+use crate::format::Format;
+use crate::head::Head;
 use crate::layout;
-use groups::{Closing, Traced};
+use groups::{Claim, Traced};
 use refusal::{Refusal, asked};
 
-fn count_in(file: &[u8]) -> usize
-    requires { numbers_place ≤ length file.now }
-    ensures { (result ≡ count_in file.now) × (result < 65536) }
+// The head of a file of the format: what 20 lets through of all that stands before the numbers.
+fn head_in(format: Format, file: &[u8]) -> Result<Head, Refusal>
+    ensures { result ≡ head_where (header_fits format.version format.width file.now) (count_in file.now) (start_in file.now) (code_in file.now) }
 {
-    wire::uint::<2>(file, layout::COUNT) as usize
+    asked(layout::NUMBERS <= file.len(), Refusal::TraceFile)?;
+    asked(file[layout::VERSION] == format.version, Refusal::TraceFile)?;
+    let head = Head::of(Claim {
+        count: wire::uint::<2>(file, layout::COUNT) as usize,
+        start: wire::uint::<2>(file, layout::START) as usize,
+        code: file[layout::CODE] as usize,
+    })?;
+    let length = u64::from(format.following(head));
+    asked(wire::uint::<4>(file, 0) == length, Refusal::TraceFile)?;
+    asked(file.len() == format.file_bytes(head), Refusal::TraceFile)?;
+    Ok(head)
 }
 
-fn start_in(file: &[u8]) -> usize
-    requires { numbers_place ≤ length file.now }
-    ensures { result ≡ start_in file.now }
+// The trace of a file of the format: refused by all of 20, then by 8 for room, before a number is written.
+fn read(format: Format, file: &[u8], numbers: &mut [f64]) -> Result<Traced, Refusal>
+    ensures { outcome result numbers.new ≡ read_of format.version format.width file.now numbers.old }
 {
-    wire::uint::<2>(file, layout::START) as usize
-}
-
-fn code_in(file: &[u8]) -> usize
-    requires { numbers_place ≤ length file.now }
-    ensures { result ≡ code_in file.now }
-{
-    file[layout::CODE] as usize
-}
-
-// Whether the length agrees with the count and with the bytes handed over.
-fn length_agrees(width: usize, file: &[u8]) -> bool
-    requires { (width ≤ most_width) × (numbers_place ≤ length file.now) }
-    ensures { result ≡ length_agrees width file.now }
-{
-    let count = count_in(file);
-    wire::uint::<4>(file, 0) == layout::following(width, count)
-        && file.len() == layout::file_bytes(width, count)
-}
-
-// What 20 lets through of all that stands before the numbers.
-fn header_fits(version: u64, width: usize, file: &[u8]) -> bool
-    requires { width ≤ most_width }
-    ensures { result ≡ header_fits version width file.now }
-{
-    if file.len() < layout::NUMBERS {
-        return false;
-    }
-    if file[layout::VERSION] as u64 != version {
-        return false;
-    }
-    layout::claim_fits(count_in(file), start_in(file), code_in(file)) && length_agrees(width, file)
-}
-
-// Whether each of the file's n numbers is finite.
-fn all_finite(file: &[u8], n: usize) -> bool
-    requires { numbers_place + 8 * n ≤ length file.now }
-    ensures { result ≡ all_finite (numbers_from file.now numbers_place n) }
-{
-    for k in 0..n {
-        if !number::is_finite(wire::number(file, layout::NUMBERS + 8 * k)) {
-            return false;
-        }
-    }
-    true
-}
-
-// The first refusal: all of 20, then 8 for room.
-fn read_fitness(version: u64, width: usize, file: &[u8], room: usize) -> Result<(), Refusal>
-    requires { width ≤ most_width }
-    ensures { result ≡ read_fitness version width file.now room }
-{
-    asked(header_fits(version, width, file), Refusal::TraceFile)?;
-    let n = width * count_in(file);
-    asked(all_finite(file, n), Refusal::TraceFile)?;
-    asked(n <= room, Refusal::Lent)
-}
-
-// The file's n numbers, at the front of the list.
-fn get_numbers(file: &[u8], n: usize, numbers: &mut [f64])
-    requires { (numbers_place + 8 * n ≤ length file.now) × (n ≤ length numbers.old) }
-    ensures { numbers.new ≡ written (numbers_from file.now numbers_place n) numbers.old }
-{
-    for k in 0..n {
-        numbers[k] = wire::number(file, layout::NUMBERS + 8 * k);
-    }
-}
-
-// The trace of a file of a version.
-fn read(version: u64, width: usize, file: &[u8], numbers: &mut [f64]) -> Result<Traced, Refusal>
-    requires { width ≤ most_width }
-    ensures { outcome result numbers.new ≡ read_of version width file.now numbers.old }
-{
-    read_fitness(version, width, file, numbers.len())?;
-    let count = count_in(file);
-    get_numbers(file, width * count, &mut *numbers);
+    let head = head_in(format, file)?;
+    asked(wire::all_finite(file, layout::NUMBERS), Refusal::TraceFile)?;
+    let n = format.numbers(head);
+    asked(n <= numbers.len(), Refusal::Lent)?;
+    wire::fill(&mut numbers[..n], file, layout::NUMBERS);
     Ok(Traced {
-        count,
-        start: start_in(file),
-        closing: Closing::of_code(code_in(file)),
+        count: usize::from(head.count),
+        start: usize::from(head.start),
+        closing: head.closing,
     })
 }
 
@@ -107,5 +48,5 @@ fn read(version: u64, width: usize, file: &[u8], numbers: &mut [f64]) -> Result<
 pub fn read_v1(file: &[u8], numbers: &mut [f64]) -> Result<Traced, Refusal>
     ensures { outcome result numbers.new ≡ read_of version1 width1 file.now numbers.old }
 {
-    read(layout::VERSION_1, layout::WIDTH_1, file, &mut *numbers)
+    read(Format::VERSION_1, file, &mut *numbers)
 }

@@ -1,17 +1,19 @@
 -- Numbers one behind the other, in a list of bytes: what the loops over them keep.
-use mathlib.Core.Path.{◌≡◌, refl, sym, ap, ◌∙◌}
-use mathlib.Core.List.{List, [], ◌∷◌, ◌++◌, append-nil, append_assoc}
+use mathlib.Core.Path.{◌≡◌, refl, sym, ap, ap₂, ◌∙◌}
+use mathlib.Core.List.{List, [], ◌∷◌, ◌++◌, map, append-nil, append_assoc}
 use Prim.Native.Nat.{ℕ, zero, suc, ◌+◌, ◌*◌, ◌≤◌, ◌<◌}
 use native.Mathlib.Numerals.{add-one}
 use native.Mathlib.Omega.{arith}
 use lib.Ieee.{Float, nan}
-use lib.ListN.{length, take, get_or, set, length-append}
-use lib.Seq.{length-take-le, take-suc}
+use lib.ListN.{length, take, drop, get_or, set, length-append}
+use lib.Seq.{drop-drop, get_or-drop, get_or-take, length-take-le, take-suc}
+use Rattle.std.specs.Simd.{first_chunks}
+use Rattle.number.specs.Operators.{bits}
 use Rattle.std.proofs.lemmas.Grind.{common_steps}
 use Rattle.std.proofs.lemmas.List.{same_lists}
 use Rattle.loops.specs.Over.{over}
 use Rattle.loops.proofs.Over.{over_nothing, over_next}
-use Rattle.wire.specs.Wire.{number_at, numbers_from, number_bytes, numbers_bytes}
+use Rattle.wire.specs.Wire.{uint_at, number_at, numbers_from, number_bytes, numbers_bytes}
 use Rattle.wire.proofs.Laws.{number_length}
 
 -- ---- read from bytes
@@ -39,6 +41,27 @@ Filled s at l k = (j : ℕ) (d : Float) → j < k → get_or l j d ≡ number_at
 
 pub filled_more : (s : List ℕ) (at : ℕ) (l : List Float) (k : ℕ) (x : Float) → k < length l → Filled s at l k → x ≡ number_at s (at + 8 * k) → Filled s at (set l k x) (k + 1)
 filled_more s at l k x h i e j d b = grind (arith, common_steps, i j d)
+
+-- the numbers of a part that starts at `at`, and of eight bytes taken out
+uint_part : (n m k : ℕ) (s : List ℕ) (at : ℕ) → k + n ≤ m → uint_at n (take m (drop at s)) k ≡ uint_at n s (at + k)
+unfolding uint_at
+uint_part zero m k s at h = refl
+uint_part (suc n) m k s at h =
+    let here : get_or (take m (drop at s)) k 0 ≡ get_or s (at + k) 0 = get_or-take m (drop at s) k 0 (omega arith) ∙ get_or-drop at s k 0 in
+    let next : at + (k + 1) ≡ at + k + 1 = omega arith in
+    rw (here, uint_part n m (k + 1) s at (omega arith), next)
+
+number_part : (s : List ℕ) (at : ℕ) → number_at (take 8 (drop at s)) 0 ≡ number_at s at
+unfolding number_at
+number_part s at = ap bits (uint_part 8 8 0 s at (omega arith) ∙ ap (uint_at 8 s) (let e : at + 0 ≡ at = omega arith in e))
+
+-- eight bytes each, as a slice hands them out
+pub numbers_chunked : (s : List ℕ) (at n : ℕ) → map (λ (b : List ℕ). number_at b 0) (first_chunks 8 n (drop at s)) ≡ numbers_from s at n
+unfolding numbers_from
+numbers_chunked s at zero = refl
+numbers_chunked s at (suc n) =
+    ap₂ ◌∷◌ (number_part s at)
+    (ap (λ (t : List ℕ). map (λ (b : List ℕ). number_at b 0) (first_chunks 8 n t)) (drop-drop 8 at s) ∙ numbers_chunked s (at + 8) n)
 
 -- ---- put down as bytes
 

@@ -1,7 +1,9 @@
 //! Big-endian numbers in lent bytes, read and put down: what the file formats are made of.
 #![tactic(auto)]
 
-ghost use Rattle.std.specs.Prelude.{◌≡◌, ◌+◌, ◌*◌, ◌^◌, ◌≤◌, ◌<◌, length};
+ghost use Rattle.std.specs.Prelude.{◌≡◌, ◌+◌, ◌-◌, ◌*◌, ◌/◌, ◌^◌, ◌≤◌, ◌<◌, length};
+ghost use Rattle.std.specs.List.{list_all};
+ghost use Rattle.std.specs.Float.Ieee.Scale.{finite};
 ghost use Rattle.loops.specs.Over.{over};
 ghost use Rattle.wire.specs.Wire.{uint_at, number_at, numbers_from, uint_bytes, number_bytes, numbers_bytes};
 
@@ -25,6 +27,22 @@ pub fn number(bytes: &[u8], at: usize) -> f64
     ensures { result ≡ number_at bytes.now at }
 {
     number::from_bits(uint::<8>(bytes, at))
+}
+
+// The same of eight bytes alone.
+fn number_of(bytes: &[u8; 8]) -> f64
+    ensures { result ≡ number_at bytes.now 0 }
+{
+    number(bytes, 0)
+}
+
+// Whether each of the numbers from `at` to the end is finite.
+pub fn all_finite(bytes: &[u8], at: usize) -> bool
+    requires { at ≤ length bytes.now }
+    ensures { result ≡ list_all finite (numbers_from bytes.now at ((length bytes.now - at) / 8)) }
+{
+    let (numbers, _) = bytes[at..].as_chunks::<8>();
+    numbers.iter().map(number_of).all(number::is_finite)
 }
 
 // Fills the numbers with those that stand from `at` on.

@@ -6,4 +6,4 @@ use Rattle.geomcore.proofs.call.write_v1.Goals as goal
 pub returns : goal.returns
 returns c =
     let g = c.args in
-    write_v1_promised g.trace.now g.count g.start g.closing g.file.now c.shared_slice_known-1.given c.write_v1.ensures
+    write_v1_promised g.trace.now g.claim.count g.claim.start g.claim.code g.file.now c.shared_slice_known-1.given c.write_v1.ensures

@@ -1,0 +1,38 @@
+ghost use Rattle.std.specs.Prelude.{◌≡◌};
+ghost use Rattle.trace_file.specs.File.{claim_fits};
+ghost use Rattle.trace_file.specs.Head.{head_where};
+
+use groups::{Claim, Closing};
+use refusal::{Refusal, asked};
+
+// The greatest closing code.
+const GREATEST_CODE: usize = 2;
+
+// What a file's head says of its trace, in both directions: only what 20 lets through.
+#[derive(Clone, Copy)]
+pub(crate) struct Head {
+    pub(crate) count: u16,
+    pub(crate) start: u16,
+    pub(crate) closing: Closing,
+}
+
+// What 20 lets through of a claim.
+fn claim_fits(claim: Claim) -> bool
+    ensures { result ≡ claim_fits claim.count claim.start claim.code }
+{
+    groups::count_fits(claim.count) && (claim.start < claim.count && claim.code <= GREATEST_CODE)
+}
+
+impl Head {
+    // The head of a claim, or 20.
+    pub(crate) fn of(claim: Claim) -> Result<Head, Refusal>
+        ensures { result ≡ head_where (claim_fits claim.count claim.start claim.code) claim.count claim.start claim.code }
+    {
+        asked(claim_fits(claim), Refusal::TraceFile)?;
+        Ok(Head {
+            count: claim.count as u16,
+            start: claim.start as u16,
+            closing: Closing::of_code(claim.code),
+        })
+    }
+}
