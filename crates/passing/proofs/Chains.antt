@@ -6,26 +6,14 @@ use Prim.Native.Nat.{ℕ, zero, suc, ◌<◌}
 use native.Mathlib.Omega.{arith}
 use lib.Dec.{T}
 use lib.ListN.{length, get_or}
+use Rattle.std.specs.List.{All}
+use Rattle.std.proofs.lemmas.List.Elements.{All-cons, All-head, All-tail}
 
 -- ---- a property of every element
 
-module _ {A : Type 0} (G : A → Type 0) where
-  abbrev pub All : List A → Type 0
-  All [] = T true
-  All (y ∷ l) = G y × All l
-
-  pub all_append : (l r : List A) → All l → All r → All (l ++ r)
-  all_append [] r p q = q
-  all_append (y ∷ l) r p q = (p.0, all_append l r p.1 q)
-
-  pub all_reversed : (l r : List A) → All l → All r → All (reverse_aux l r)
-  all_reversed [] r p q = q
-  all_reversed (y ∷ l) r p q = all_reversed l (y ∷ r) p.1 (p.0, q)
-
-  pub all_at : (l : List A) (d : A) (i : ℕ) → i < length l → All l → G (get_or l i d)
-  all_at [] d i h p = absurd (let e : ⊥ = omega arith in e)
-  all_at (y ∷ l) d zero h p = p.0
-  all_at (y ∷ l) d (suc i) h p = all_at l d i (omega arith) p.1
+pub all_reversed : {A : Type 0} (G : A → Type 0) (l r : List A) → All G l → All G r → All G (reverse_aux l r)
+all_reversed G [] r p q = q
+all_reversed G (y ∷ l) r p q = all_reversed G l (y ∷ r) (All-tail G y l p) (All-cons G y r (All-head G y l p) q)
 
 -- ---- a relation of all neighbours
 

@@ -7,6 +7,8 @@ use native.Mathlib.Omega.{arith}
 use lib.Dec.{T}
 use lib.Ieee.{Float}
 use lib.ListN.{length}
+use Rattle.std.specs.List.{All}
+use Rattle.std.proofs.lemmas.List.Elements.{All-nil, All-cons, All-tail}
 use Rattle.loops.specs.Loop.{pick}
 use Rattle.loops.proofs.Loop.{Kept, searched_keeps_at}
 use Rattle.number.specs.Operators.{◌≤?◌}
@@ -26,7 +28,7 @@ use Rattle.step.specs.Closing.{first_stride}
 use Rattle.step.specs.declared.step.Stepped.{Stepped}
 use Rattle.step.specs.declared.step.Stepped.TheVariants.{Onward, Closed, Edge, Ended}
 use Rattle.step.proofs.Steps.{Fine, SteppedFine, step_fine}
-use Rattle.passing.proofs.Chains.{All, Linked, first_or, linked_front, linked_rest}
+use Rattle.passing.proofs.Chains.{Linked, first_or, linked_front, linked_rest}
 
 -- the computed chord from z to y is at most 0.2
 abbrev pub Near : Patch → Parameters → Parameters → Type 0
@@ -46,10 +48,13 @@ pub record HalfFine (a b : Patch) (confusion : Float) (x : Parameters) (n : ℕ)
   pub ends : Ends a x points closed
 
 module _ (a b : Patch) (tol : Tolerance) (fit : T (tolerance_fit tol)) (dir : Float) (x : Parameters) (gx : IsIntersection a b tol.confusion x) (n : ℕ) where
+  abbrev Good : Parameters → Type 0
+  Good = IsIntersection a b tol.confusion
+
   -- before iteration i: the walker stands on the last point
   record Sofar (i : ℕ) (s : Halfway) : Type 0 where
     few : length s.points ≤ i
-    good : All (IsIntersection a b tol.confusion) s.points
+    good : All Good s.points
     linked : Linked (Near a) (s.points ++ (x ∷ []))
     stands : s.w.p ≡ point_a a (first_or (Near a) x s.points)
 
@@ -63,17 +68,17 @@ module _ (a b : Patch) (tol : Tolerance) (fit : T (tolerance_fit tol)) (dir : Fl
       linked_front (Near a) y x ps
       (subst (λ (r : Point3D). T (distance_of (point_a a y) r ≤? longest_chord)) e (subst (λ (r : Point3D). T (distance_of r p ≤? longest_chord)) f.own f.chord)) l
 
-  closes : (ps : List Parameters) (removed : Bool) → length ps < n → 3 ≤ length ps → All (IsIntersection a b tol.confusion) ps → Linked (Near a) (ps ++ (x ∷ []))
+  closes : (ps : List Parameters) (removed : Bool) → length ps < n → 3 ≤ length ps → All Good ps → Linked (Near a) (ps ++ (x ∷ []))
       → HalfFine a b tol.confusion x n (x ∷ pick removed (without_last ps) ps) true
   closes [] removed h k g l = absurd (let e : ⊥ = omega arith in e)
   closes (y ∷ ys) true h k g l = record {
     few = omega arith;
-    good = (gx, g.1);
+    good = All-cons Good x ys gx (All-tail Good y ys g);
     ends = came_round_lem refl ys refl (omega arith) (linked_rest (Near a) y x ys l);
   }
   closes (y ∷ ys) false h k g l = record {
     few = omega arith;
-    good = (gx, g);
+    good = All-cons Good x (y ∷ ys) gx g;
     ends = came_round_lem refl (y ∷ ys) refl (omega arith) l;
   }
 
@@ -81,14 +86,14 @@ module _ (a b : Patch) (tol : Tolerance) (fit : T (tolerance_fit tol)) (dir : Fl
       → Kept (Sofar (i + 1)) Done (after_step x s.points r)
   after i s h v (Onward w k) f = record {
     few = let e = v.few in omega (arith, e);
-    good = (f.good fit, v.good);
+    good = All-cons Good w.x s.points (f.good fit) v.good;
     linked = joins s.points s.w.p w.x w.p v.stands f v.linked;
     stands = f.own;
   }
   after i s h v (Closed removed) f = closes s.points removed (let e = v.few in omega (arith, e, h)) f v.good v.linked
   after i s h v (Edge y q) f = record {
     few = let e = v.few in omega (arith, e, h);
-    good = (f.good fit, v.good);
+    good = All-cons Good y s.points (f.good fit) v.good;
     ends = left_open refl (joins s.points s.w.p y q v.stands f v.linked);
   }
   after i s h v Ended f = record {
@@ -105,4 +110,4 @@ module _ (a b : Patch) (tol : Tolerance) (fit : T (tolerance_fit tol)) (dir : Fl
       (λ s v. record { few = v.few; good = v.good; ends = left_open refl v.linked })
       (omega arith)
       (record { w = first_walker x (point_a a x) t dir; h = first_stride tol.confusion; points = [] })
-      (record { few = omega arith; good = tt; linked = tt; stands = refl })
+      (record { few = omega arith; good = All-nil Good; linked = tt; stands = refl })

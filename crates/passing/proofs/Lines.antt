@@ -9,6 +9,8 @@ use lib.Ieee.{Float}
 use lib.ListN.{length, get_or, length-append, length-reverse, get_or-append}
 use lib.Seq.{get_or-append_seam}
 use lib.Dec.{T}
+use Rattle.std.specs.List.{All}
+use Rattle.std.proofs.lemmas.List.Elements.{All-nil, All-cons, All-tail, All-append, All-push}
 use Rattle.loops.specs.Loop.{pick}
 use Rattle.geometry.specs.declared.vector.Vector3D.{Vector3D}
 use Rattle.geometry.specs.declared.tolerance.Tolerance.{Tolerance}
@@ -20,7 +22,7 @@ use Rattle.certificate.specs.Passes.{closing_chord}
 use Rattle.groups.specs.declared.traced.Closing.TheVariants as ends
 use Rattle.groups.specs.Traced.{code_of}
 use Rattle.walk.specs.Line.{half_of, Line, forward, backward, line_of}
-use Rattle.passing.proofs.Chains.{All, all_append, all_reversed, Linked, linked_at, linked_join, linked_reversed}
+use Rattle.passing.proofs.Chains.{all_reversed, Linked, linked_at, linked_join, linked_reversed}
 use Rattle.passing.proofs.Halves.{Near, near_swap, Ends, left_open, came_round_lem, HalfFine, half_fine}
 
 -- a closing is so when, on the line's parameters
@@ -37,8 +39,11 @@ pub record LineFine (a b : Patch) (confusion : Float) (x : Parameters) (n : ℕ)
   pub chords : (j : ℕ) → suc j < length points → closing_chord (length points) closing (suc j) ≡ false → Near a (get_or points (suc j) x) (get_or points j x)
 
 module _ (a b : Patch) (confusion : Float) (x : Parameters) (gx : IsIntersection a b confusion x) (n : ℕ) where
+  abbrev Met : Parameters → Type 0
+  Met = IsIntersection a b confusion
+
   abbrev Good : List Parameters → Type 0
-  Good = All (IsIntersection a b confusion)
+  Good = All Met
 
   abbrev Chain : List Parameters → Type 0
   Chain = Linked (Near a)
@@ -64,7 +69,7 @@ module _ (a b : Patch) (confusion : Float) (x : Parameters) (gx : IsIntersection
       record {
         few = omega (arith, e, h);
         among = omega arith;
-        good = (gx, all_append (IsIntersection a b confusion) r (x ∷ []) g (gx, tt));
+        good = All-cons Met x (r ++ (x ∷ [])) gx (All-push Met r x g gx);
         closed = round_forward refl refl (ap (λ (k : ℕ). get_or (x ∷ (r ++ (x ∷ []))) k x) f ∙ get_or-append_seam (x ∷ r) x [] x);
         chords = λ j k c. chord_before (x ∷ r) l j (let d = eqb-false (suc j) (length (x ∷ (r ++ (x ∷ []))) - 1) c in omega (arith, d, k, e));
       }
@@ -78,7 +83,7 @@ module _ (a b : Patch) (confusion : Float) (x : Parameters) (gx : IsIntersection
       record {
         few = omega (arith, e, h, k);
         among = omega (arith, e);
-        good = all_append (IsIntersection a b confusion) l (x ∷ r) g (gx, q);
+        good = All-append Met l (x ∷ r) g (All-cons Met x r gx q);
         closed = not_round refl;
         chords = λ j d c. chord_at (l ++ (x ∷ r)) (linked_join (Near a) l x r p s) j d;
       }
@@ -90,7 +95,7 @@ module _ (a b : Patch) (confusion : Float) (x : Parameters) (gx : IsIntersection
       record {
         few = omega (arith, e, h, k);
         among = omega (arith, e);
-        good = (gx, all_append (IsIntersection a b confusion) l (x ∷ r) g (gx, q));
+        good = All-cons Met x (l ++ (x ∷ r)) gx (All-append Met l (x ∷ r) g (All-cons Met x r gx q));
         closed = round_back refl (omega (arith, m)) (sym (get_or-append_seam (x ∷ l) x r x));
         chords = chord;
       }
@@ -109,16 +114,16 @@ module _ (a b : Patch) (confusion : Float) (x : Parameters) (gx : IsIntersection
   Made m = Fine m.points m.start (code_of m.closing)
 
   reversed_good : (l : List Parameters) → Good l → Good (reverse l)
-  reversed_good l g = all_reversed (IsIntersection a b confusion) l [] g tt
+  reversed_good l g = all_reversed Met l [] g (All-nil Met)
 
   closed_made : (kept : List Parameters) → length (x ∷ kept) ≤ n → Good (x ∷ kept) → Chain (kept ++ (x ∷ [])) → Fine (x ∷ reverse (x ∷ kept)) 0 1
   closed_made kept h g l =
       subst (λ (r : List Parameters). Fine (x ∷ r) 0 1) (sym (reverse-cons x kept))
-      (round_line (reverse kept) (let e = length-reverse kept in omega (arith, e, h)) (reversed_good kept g.1) (linked_reversed (Near a) (near_swap a) x kept l))
+      (round_line (reverse kept) (let e = length-reverse kept in omega (arith, e, h)) (reversed_good kept (All-tail Met x kept g)) (linked_reversed (Near a) (near_swap a) x kept l))
 
   back_made : (kept r : List Parameters) → length (x ∷ kept) ≤ n → length r ≤ n → 2 ≤ length kept → Good (x ∷ kept) → Good r
       → Chain (kept ++ (x ∷ [])) → Chain (x ∷ r) → Fine ((x ∷ kept) ++ (x ∷ r)) (length (x ∷ kept)) 2
-  back_made kept r h k m g q l s = back_line kept r (omega arith) k m g.1 q l s
+  back_made kept r h k m g q l s = back_line kept r (omega arith) k m (All-tail Met x kept g) q l s
 
   both_made : (fp bp : List Parameters) (bc : Bool) → length fp ≤ n → Good fp → Chain (fp ++ (x ∷ [])) → length bp ≤ n → Good bp → Ends a x bp bc
       → Fine (bp ++ (x ∷ reverse fp)) (length bp) (code_of (pick bc ends.Backward ends.Open))

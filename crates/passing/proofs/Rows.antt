@@ -26,7 +26,7 @@ use Rattle.certificate.specs.Passes.{closing_chord, PointPasses, ClosedAs, claim
 use Rattle.walk.specs.Lent.{own_row, rows_of}
 use Rattle.walk.proofs.Rows.{rows_length}
 use Rattle.walk.proofs.Calls.{CallFit}
-use Rattle.passing.proofs.Chains.{all_at}
+use Rattle.std.proofs.lemmas.List.Elements.{All-get_or}
 use Rattle.passing.proofs.Lines.{Round, not_round, round_forward, round_back, LineFine}
 
 -- ---- row i is the i-th point's
@@ -75,7 +75,7 @@ module _ {a b : Patch} {tol : Tolerance} {n : ℕ} {before : List Float} (f : Ca
 
   point_passes : (i : ℕ) → i < length points → PointPasses a b tol (row_of l i)
   point_passes i h =
-      subst (PointPasses a b tol) (sym (row_is i h)) (good_row a b tol f.tolerance (get_or points i x) (all_at (IsIntersection a b tol.confusion) points x i h v.good))
+      subst (PointPasses a b tol) (sym (row_is i h)) (good_row a b tol f.tolerance (get_or points i x) (All-get_or (IsIntersection a b tol.confusion) points i x h v.good))
 
   point_is : (i : ℕ) → i < length points → point_in (row_of l i) ≡ point_a a (get_or points i x)
   point_is i h = ap point_in (row_is i h)

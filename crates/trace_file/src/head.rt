@@ -23,11 +23,13 @@ fn claim_fits(claim: Claim) -> bool
     groups::count_fits(claim.count) && (claim.start < claim.count && claim.code <= GREATEST_CODE)
 }
 
-impl Head {
-    // The head of a claim, or 20.
-    pub(crate) fn of(claim: Claim) -> Result<Head, Refusal>
-        ensures { result ≡ head_where (claim_fits claim.count claim.start claim.code) claim.count claim.start claim.code }
-    {
+// The head of a claim, or 20.
+impl TryFrom<Claim> for Head {
+    type Error = Refusal;
+
+    ghost try_from_gives = { λ claim head. head ≡ head_where (claim_fits claim.count claim.start claim.code) claim.count claim.start claim.code };
+
+    fn try_from(claim: Claim) -> Result<Head, Refusal> {
         asked(claim_fits(claim), Refusal::TraceFile)?;
         Ok(Head {
             count: claim.count as u16,

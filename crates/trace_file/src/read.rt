@@ -17,7 +17,7 @@ fn head_in(format: Format, file: &[u8]) -> Result<Head, Refusal>
 {
     asked(layout::NUMBERS <= file.len(), Refusal::TraceFile)?;
     asked(file[layout::VERSION] == format.version, Refusal::TraceFile)?;
-    let head = Head::of(Claim {
+    let head = Head::try_from(Claim {
         count: wire::uint::<2>(file, layout::COUNT) as usize,
         start: wire::uint::<2>(file, layout::START) as usize,
         code: file[layout::CODE] as usize,

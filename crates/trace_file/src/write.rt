@@ -35,7 +35,7 @@ fn put_header(file: &mut [u8], format: Format, head: Head)
 fn write(format: Format, numbers: &[f64], claim: Claim, file: &mut [u8]) -> Result<usize, Refusal>
     ensures { filed result file.new ≡ write_of format.version format.width numbers.now claim.count claim.start claim.code file.old }
 {
-    let head = Head::of(claim)?;
+    let head = Head::try_from(claim)?;
     let n = format.numbers(head);
     asked(n <= numbers.len(), Refusal::Lent)?;
     let bytes = format.file_bytes(head);

@@ -35,7 +35,7 @@ returns-in_err-head c =
     let e : c.from_residual-in_err-head.result ≡ Err c.in_err-head.field-0.0 = search rules in
     let there = test_held refusal.TraceFile c.asked.ensures c.in_ok-asked.was refl in
     let versioned = test_held refusal.TraceFile c.asked-2.ensures c.in_ok-asked-2.was refl in
-    let no = head_refused _ _ _ c.of.ensures c.in_err-head.was in
+    let no = head_refused _ _ _ c.try_from.ensures c.in_err-head.was in
     rw (e, there, versioned, ← c.uint.ensures.value, ← c.uint-2.ensures.value, no.0, no.1)
 
 -- where the claim is let through
@@ -50,10 +50,10 @@ module _ (c : In_ok-head) where
   versioned = test_held refusal.TraceFile c.asked-2.ensures c.in_ok-asked-2.was refl
 
   claim : claim_fits (count_in s) (start_in s) (code_in s) ≡ true
-  claim = rw (c.uint.ensures.value, c.uint-2.ensures.value) at (head_given _ _ _ c.of.ensures c.in_ok-head.was).0
+  claim = rw (c.uint.ensures.value, c.uint-2.ensures.value) at (head_given _ _ _ c.try_from.ensures c.in_ok-head.was).0
 
   head : c.in_ok-head.head ≡ record { count = count_in s; start = start_in s; closing = closing_at (code_in s) }
-  head = rw (c.uint.ensures.value, c.uint-2.ensures.value) at (head_given _ _ _ c.of.ensures c.in_ok-head.was).1
+  head = rw (c.uint.ensures.value, c.uint-2.ensures.value) at (head_given _ _ _ c.try_from.ensures c.in_ok-head.was).1
 
   long : {n m : ℕ} → n ≡ m → m ≡ following c.args.format.width c.in_ok-head.head.count → n ≡ following c.args.format.width (count_in s)
   long e f = e ∙ f ∙ ap (λ (h : Head). following c.args.format.width h.count) head

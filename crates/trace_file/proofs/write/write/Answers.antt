@@ -23,10 +23,10 @@ use Rattle.trace_file.proofs.write.write.Goals.{In_ok-head}
 -- what the tests say that passed
 module _ (c : In_ok-head) where
   claim : claim_fits c.args.claim.count c.args.claim.start c.args.claim.code ≡ true
-  claim = (head_given _ _ _ c.of.ensures c.in_ok-head.was).0
+  claim = (head_given _ _ _ c.try_from.ensures c.in_ok-head.was).0
 
   head : c.in_ok-head.head ≡ record { count = c.args.claim.count; start = c.args.claim.start; closing = closing_at c.args.claim.code }
-  head = (head_given _ _ _ c.of.ensures c.in_ok-head.was).1
+  head = (head_given _ _ _ c.try_from.ensures c.in_ok-head.was).1
 
   many : {n : ℕ} → n ≡ c.args.format.width * c.in_ok-head.head.count → n ≡ c.args.format.width * c.args.claim.count
   many e = e ∙ ap (λ (h : Head). c.args.format.width * h.count) head
@@ -38,7 +38,7 @@ pub returns-in_err-head : goal.returns-in_err-head
 unfolding write_of write_fitness
 returns-in_err-head c =
     let e : c.from_residual.result ≡ Err c.in_err-head.field-0.0 = search rules in
-    let no = head_refused _ _ _ c.of.ensures c.in_err-head.was in
+    let no = head_refused _ _ _ c.try_from.ensures c.in_err-head.was in
     rw (e, no.0, no.1)
 
 pub returns-in_err-asked : goal.returns-in_err-asked

@@ -1,7 +1,7 @@
 use native.Mathlib.Omega.{arith}
 use Rattle.trace_file.proofs.Fitness.{claim_fits_lem, test_held}
 use Rattle.refusal.specs.declared.Refusal.TheVariants as refusal
-use Rattle.trace_file.proofs.head.Head.of.Goals as goal
+use Rattle.trace_file.proofs.head.HeadTryFromClaim.try_from.Goals as goal
 
 pub overflow_cast-result : goal.overflow_cast-result
 overflow_cast-result c =
