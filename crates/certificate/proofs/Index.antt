@@ -1,5 +1,5 @@
 -- The index that a refusal of the check names is below the count claimed, and so within 01's 4001 points; a closing code is at most 2.
-use Rattle.std.specs.Prelude.{Ok, Err}
+use Rattle.std.specs.Prelude.{Option, Ok, Err}
 use mathlib.Core.Path.{◌≡◌}
 use mathlib.Core.Bool.{true}
 use mathlib.Core.List.{List}
@@ -21,32 +21,32 @@ use Rattle.patch.specs.declared.patch.Patch.{Patch}
 use Rattle.patch.specs.Located.{point_a, point_b}
 use Rattle.patch.specs.Patch.{inside_of}
 use Rattle.patch.proofs.Fitness.{pair_each}
-use Rattle.certificate.specs.Passes.{parameters_in, ClosedAs, claimed_open, forward, backward}
+use Rattle.certificate.specs.Passes.{parameters_in, closing_end, ClosedAs, claimed_open, forward, backward}
 use Rattle.certificate.specs.Check.{is_own, own_of, chord_fits, point_tests, point_verdict, stopped, point_body, all_passed, points_verdict, claim_so, check_tests, check_of}
 use Rattle.certificate.proofs.Passed.{claimed}
 
 -- point i is named by its own index
-point_below : (a b : Patch) (confusion : Float) (before r : Row) (count closing i : ℕ) → Below i (point_verdict (is_own a) a b confusion before r count closing i)
+point_below : (a b : Patch) (confusion : Float) (before r : Row) (end : Option ℕ) (i : ℕ) → Below i (point_verdict (is_own a) a b confusion before r end i)
 unfolding point_verdict
-point_below a b confusion before r count closing i =
+point_below a b confusion before r end i =
     let x = parameters_in r in
-    first_each (Below i) (point_tests (is_own a) a b confusion before r count closing i) (
+    first_each (Below i) (point_tests (is_own a) a b confusion before r end i) (
       asked_below (inside_of a b x) (refusal.OutsideWindow i) i (omega arith),
       λ n. (
         asked_below (own_of (point_in r) (point_a a x)) (refusal.NotOwnPoint i) i (omega arith),
         λ o. (
           asked_below (distance_of (point_a a x) (point_b b x) ≤? confusion) (refusal.Gap i) i (omega arith),
           λ g.
-              (asked_below (chord_fits before r count closing i) (refusal.Chord i) i (omega arith), λ k. omega arith),
+              (asked_below (chord_fits before r end i) (refusal.Chord i) i (omega arith), λ k. omega arith),
         ),
       ),
     )
 
-points_below : (a b : Patch) (confusion : Float) (rows : ℕ → Row) (count closing : ℕ) → Below count (points_verdict (is_own a) a b confusion rows count closing)
+points_below : (a b : Patch) (confusion : Float) (rows : ℕ → Row) (count : ℕ) (end : Option ℕ) → Below count (points_verdict (is_own a) a b confusion rows count end)
 unfolding points_verdict
-points_below a b confusion rows count closing =
-    searched_keeps_at (point_body (is_own a) a b confusion rows count closing) all_passed (λ i s. Unit {0}) (Below count) 0 count
-    (λ i s h p. go i (point_verdict (is_own a) a b confusion (rows (i - 1)) (rows i) count closing i) h (point_below a b confusion (rows (i - 1)) (rows i) count closing i))
+points_below a b confusion rows count end =
+    searched_keeps_at (point_body (is_own a) a b confusion rows end) all_passed (λ i s. Unit {0}) (Below count) 0 count
+    (λ i s h p. go i (point_verdict (is_own a) a b confusion (rows (i - 1)) (rows i) end i) h (point_below a b confusion (rows (i - 1)) (rows i) end i))
     (λ s p. omega arith) (omega arith) tt tt
   where
     go : (i : ℕ) (v : Verdict) → i < count → Below i v → Kept (λ (s : Unit {0}). Unit {0}) (Below count) (stopped v)
@@ -68,10 +68,10 @@ check_index a b tol l count start closing =
       ),
     )
   where
-    within : claim_so (row_of l) count start closing ≡ true → Below most_points (points_verdict (is_own a) a b tol.confusion (row_of l) count closing)
+    within : claim_so (row_of l) count start closing ≡ true → Below most_points (points_verdict (is_own a) a b tol.confusion (row_of l) count (closing_end count closing))
     within e =
         let m = (claimed (row_of l) count start closing e).1 in
-        let b = points_below a b tol.confusion (row_of l) count closing in
+        let b = points_below a b tol.confusion (row_of l) count (closing_end count closing) in
         omega (arith, m, b)
 
 pub code_small : {rows : ℕ → Row} {count start closing : ℕ} → ClosedAs rows count start closing → closing ≤ 2

@@ -1,5 +1,5 @@
 -- The check's answer is passed exactly when `Passes` holds.
-use Rattle.std.specs.Prelude.{Ok, Err}
+use Rattle.std.specs.Prelude.{Option, Ok, Err}
 use mathlib.Core.Path.{◌≡◌, refl, sym, ap, ◌∙◌, subst}
 use mathlib.Core.Bool.{true, false, ◌&&◌}
 use mathlib.Core.List.{List}
@@ -30,28 +30,28 @@ use Rattle.patch.specs.declared.patch.Patch.{Patch}
 use Rattle.patch.specs.Located.{point_a, point_b}
 use Rattle.patch.specs.Patch.{inside_of}
 use Rattle.patch.proofs.Fitness.{pair_passed, passed_pair}
-use Rattle.certificate.specs.Passes.{parameters_in, closing_chord, PointPasses, ClosedAs, claimed_open, forward, backward, Passes}
+use Rattle.certificate.specs.Passes.{parameters_in, closing_end, ends_at, PointPasses, ClosedAs, claimed_open, forward, backward, Passes}
 use Rattle.certificate.specs.Check.{is_own, finite_point, same_point, own_of, chord_fits, point_tests, point_verdict, stopped, point_body, all_passed, points_verdict, same_row, closing_so, claim_so, check_tests, check_of}
 use Rattle.certificate.proofs.Bits.{point_fits, point_equal, equal_point, row_fits, row_equal, equal_row, fresh_fits}
 
 -- ---- one point
 
-module _ (a b : Patch) (tol : Tolerance) (before r : Row) (count closing i : ℕ) where
+module _ (a b : Patch) (tol : Tolerance) (before r : Row) (end : Option ℕ) (i : ℕ) where
   -- the chord to point i: tested unless it is the first point's or the closing one
   abbrev Chord : Type 0
-  Chord = 0 < i → closing_chord count closing i ≡ false → T (distance_of (point_in r) (point_in before) ≤? longest_chord)
+  Chord = 0 < i → ends_at end i ≡ false → T (distance_of (point_in r) (point_in before) ≤? longest_chord)
 
-  chord_tested : chord_fits before r count closing i ≡ true → Chord
+  chord_tested : chord_fits before r end i ≡ true → Chord
   unfolding chord_fits
   chord_tested e h n =
-      let w : chord_fits before r count closing i ≡ (distance_of (point_in r) (point_in before) ≤? longest_chord) = rw (ne_eqb i 0 (λ q. omega arith), n) in
+      let w : chord_fits before r end i ≡ (distance_of (point_in r) (point_in before) ≤? longest_chord) = rw (ne_eqb i 0 (λ q. omega arith), n) in
       passes _ (sym w ∙ e)
 
-  chord_fits_lem : Chord → chord_fits before r count closing i ≡ true
+  chord_fits_lem : Chord → chord_fits before r end i ≡ true
   unfolding chord_fits
   chord_fits_lem f =
       cases (eqb i 0) (λ e. rw e)
-      (λ e. cases (closing_chord count closing i) (λ n. rw (e, n)) (λ n. rw (e, n) (is_true _ (f (let d = eqb-false i 0 e in omega arith) n))))
+      (λ e. cases (ends_at end i) (λ n. rw (e, n)) (λ n. rw (e, n) (is_true _ (f (let d = eqb-false i 0 e in omega arith) n))))
 
   -- A's own point: finite where worked out afresh, and equal to what is stored
   own_of_lem : AllFit (numbers_of r) → T (inside_of a b (parameters_in r)) → T (own_of (point_in r) (point_a a (parameters_in r)))
@@ -79,17 +79,17 @@ module _ (a b : Patch) (tol : Tolerance) (before r : Row) (count closing i : ℕ
       (equal_point (point_in r) q p.own)
 
   -- what a passed point says, and what makes it pass
-  point_passes : AllFit (numbers_of r) → point_verdict (is_own a) a b tol.confusion before r count closing i ≡ Ok tt → PointPasses a b tol r × Chord
+  point_passes : AllFit (numbers_of r) → point_verdict (is_own a) a b tol.confusion before r end i ≡ Ok tt → PointPasses a b tol r × Chord
   unfolding point_verdict
   point_passes d e =
       let x = parameters_in r in
-      let s = first_passed (point_tests (is_own a) a b tol.confusion before r count closing i) e in
+      let s = first_passed (point_tests (is_own a) a b tol.confusion before r end i) e in
       let n = asked_held (inside_of a b x) (refusal.OutsideWindow i) s.0 in
       let o = asked_held (own_of (point_in r) (point_a a x)) (refusal.NotOwnPoint i) s.1.0 in
       let g = asked_held (distance_of (point_a a x) (point_b b x) ≤? tol.confusion) (refusal.Gap i) s.1.1.0 in
-      (own_of_lem d (passes _ n) (passes _ o) (passes _ g), chord_tested (asked_held (chord_fits before r count closing i) (refusal.Chord i) s.1.1.1.0))
+      (own_of_lem d (passes _ n) (passes _ o) (passes _ g), chord_tested (asked_held (chord_fits before r end i) (refusal.Chord i) s.1.1.1.0))
 
-  passes_point : PointPasses a b tol r → Chord → point_verdict (is_own a) a b tol.confusion before r count closing i ≡ Ok tt
+  passes_point : PointPasses a b tol r → Chord → point_verdict (is_own a) a b tol.confusion before r end i ≡ Ok tt
   unfolding point_verdict
   passes_point p k =
       let x = parameters_in r in
@@ -97,12 +97,12 @@ module _ (a b : Patch) (tol : Tolerance) (before r : Row) (count closing i : ℕ
 
 -- ---- the search over the points
 
-module _ (a b : Patch) (tol : Tolerance) (rows : ℕ → Row) (count closing : ℕ) where
+module _ (a b : Patch) (tol : Tolerance) (rows : ℕ → Row) (count : ℕ) (end : Option ℕ) where
   abbrev from : ℕ → Flow (Unit {0}) Verdict → Verdict
-  from i s = searched (point_body (is_own a) a b tol.confusion rows count closing) all_passed i count s
+  from i s = searched (point_body (is_own a) a b tol.confusion rows end) all_passed i count s
 
   abbrev verdict : ℕ → Verdict
-  verdict i = point_verdict (is_own a) a b tol.confusion (rows (i - 1)) (rows i) count closing i
+  verdict i = point_verdict (is_own a) a b tol.confusion (rows (i - 1)) (rows i) end i
 
   -- it passes only where each point does
   each_passed : (k i : ℕ) → count - i ≡ k → from i (on tt) ≡ Ok tt → (j : ℕ) → i ≤ j → j < count → verdict j ≡ Ok tt
@@ -123,15 +123,15 @@ module _ (a b : Patch) (tol : Tolerance) (rows : ℕ → Row) (count closing : �
       searched_step _ all_passed i count tt (omega arith) ∙ ap (from (i + 1)) (ap stopped (f i (omega arith) (omega arith)))
       ∙ all_passed_lem k (i + 1) (omega arith) (λ j h n. f j (omega arith) n)
 
-  points_pass : ((i : ℕ) → i < count → AllFit (numbers_of (rows i))) → points_verdict (is_own a) a b tol.confusion rows count closing ≡ Ok tt
-      → (i : ℕ) → i < count → PointPasses a b tol (rows i) × Chord a b tol (rows (i - 1)) (rows i) count closing i
+  points_pass : ((i : ℕ) → i < count → AllFit (numbers_of (rows i))) → points_verdict (is_own a) a b tol.confusion rows count end ≡ Ok tt
+      → (i : ℕ) → i < count → PointPasses a b tol (rows i) × Chord a b tol (rows (i - 1)) (rows i) end i
   unfolding points_verdict
-  points_pass d e i h = point_passes a b tol (rows (i - 1)) (rows i) count closing i (d i h) (each_passed count 0 (omega arith) e i (omega arith) h)
+  points_pass d e i h = point_passes a b tol (rows (i - 1)) (rows i) end i (d i h) (each_passed count 0 (omega arith) e i (omega arith) h)
 
-  pass_points : ((i : ℕ) → i < count → PointPasses a b tol (rows i)) → ((i : ℕ) → i < count → Chord a b tol (rows (i - 1)) (rows i) count closing i)
-      → points_verdict (is_own a) a b tol.confusion rows count closing ≡ Ok tt
+  pass_points : ((i : ℕ) → i < count → PointPasses a b tol (rows i)) → ((i : ℕ) → i < count → Chord a b tol (rows (i - 1)) (rows i) end i)
+      → points_verdict (is_own a) a b tol.confusion rows count end ≡ Ok tt
   unfolding points_verdict
-  pass_points p k = all_passed_lem count 0 (omega arith) (λ j z h. passes_point a b tol (rows (j - 1)) (rows j) count closing j (p j h) (k j h))
+  pass_points p k = all_passed_lem count 0 (omega arith) (λ j z h. passes_point a b tol (rows (j - 1)) (rows j) end j (p j h) (k j h))
 
 -- ---- the claim
 
@@ -174,6 +174,15 @@ module _ (rows : ℕ → Row) (count start closing : ℕ) where
       let t = both (ltb start count) c s.1 in
       (n.0, n.1, ltb-true start count t.0, t.1)
 
+  -- so its code is one
+  pub code_so : closing_so rows count start closing ≡ true → closing ≤ 2
+  unfolding closing_so
+  code_so e =
+      cases (eqb closing 0) (λ w. let d = eqb-true closing 0 w in omega arith)
+      (λ w. cases (eqb closing 1) (λ v. let d = eqb-true closing 1 v in omega arith)
+      (λ v. let q : closing_so rows count start closing ≡ (eqb closing 2 && (leb 2 start && same_row (rows 0) (rows start))) = rw (w, v) in
+      let d = eqb-true closing 2 (both (eqb closing 2) _ (sym q ∙ e)).0 in omega arith))
+
 -- ---- the whole
 
 module _ (a b : Patch) (tol : Tolerance) (l : List Float) (count start closing : ℕ) where
@@ -186,7 +195,7 @@ module _ (a b : Patch) (tol : Tolerance) (l : List Float) (count start closing :
       let n = holds_length width l count (asked_held (holds_of width l count) refusal.Lent s.1.0) in
       let c = claimed (row_of l) count start closing (asked_held (claim_so (row_of l) count start closing) refusal.Claim s.1.1.0) in
       let f : ((i : ℕ) → i < count → AllFit (numbers_of (row_of l i))) = λ i h. row_fits l d i (omega arith) in
-      let each = points_pass a b tol (row_of l) count closing f s.1.1.1.0 in
+      let each = points_pass a b tol (row_of l) count (closing_end count closing) f s.1.1.1.0 in
       record {
         fit_a = p.0;
         fit_b = p.1;
@@ -205,4 +214,4 @@ module _ (a b : Patch) (tol : Tolerance) (l : List Float) (count start closing :
   unfolding check_of claim_so holds_of
   passes_checked p =
       let c = closed_is (row_of l) count start closing p.closed in
-      rw (passed_pair a b tol p.fit_a p.fit_b (is_true _ p.tolerance), le-leb _ _ p.lent, fits_count count p.least p.most, lt-ltb _ _ p.among, c, pass_points a b tol (row_of l) count closing p.points (λ i h z k. p.chords i z h k))
+      rw (passed_pair a b tol p.fit_a p.fit_b (is_true _ p.tolerance), le-leb _ _ p.lent, fits_count count p.least p.most, lt-ltb _ _ p.among, c, pass_points a b tol (row_of l) count (closing_end count closing) p.points (λ i h z k. p.chords i z h k))

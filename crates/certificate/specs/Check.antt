@@ -1,5 +1,5 @@
 -- The public check, in 01's order of tests. Definitions only.
-use Rattle.std.specs.Prelude.{Bool, true, false, ◌&&◌, List, [], ◌∷◌, ℕ, ◌-◌, eqb, ltb, leb, Float, Ok, Err}
+use Rattle.std.specs.Prelude.{Bool, true, false, ◌&&◌, List, [], ◌∷◌, ℕ, ◌-◌, eqb, ltb, leb, Float, Option, Ok, Err}
 use Rattle.std.specs.Float.Ieee.Scale.{finite}
 use Rattle.loops.specs.Loop.{pick, Flow, on, out, searched}
 use Rattle.number.specs.Operators.{◌≤?◌}
@@ -17,7 +17,7 @@ use Rattle.patch.specs.declared.patch.Patch.{Patch}
 use Rattle.patch.specs.Located.{point_a, point_b}
 use Rattle.patch.specs.Pair.{pair_fitness}
 use Rattle.patch.specs.Patch.{inside_of}
-use Rattle.certificate.specs.Passes.{parameters_in, closing_chord}
+use Rattle.certificate.specs.Passes.{parameters_in, closing_end, ends_at}
 
 -- numbers equal "in bits", one by one
 unfoldable pub same_numbers : List Float → List Float → Bool
@@ -51,24 +51,24 @@ is_own a r = own_of (point_in r) (point_a a (parameters_in r))
 -- ---- "point by point 14, 13, 15, 16"
 
 -- what 16 lets through: "computed chord from the point before not at most 0.2, the closing chord not being tested"
-unfoldable pub chord_fits : Row → Row → ℕ → ℕ → ℕ → Bool
-chord_fits before r count closing i =
+unfoldable pub chord_fits : Row → Row → Option ℕ → ℕ → Bool
+chord_fits before r end i =
     pick (eqb i 0) true
-    (pick (closing_chord count closing i) true
+    (pick (ends_at end i) true
     (distance_of (point_in r) (point_in before) ≤? longest_chord))
 
 -- 14: "a parameter outside a window that has no turn mark; NaN is outside"; 13; 15: "computed gap not at most confusion"; 16
-abbrev pub point_tests : (Row → Bool) → Patch → Patch → Float → Row → Row → ℕ → ℕ → ℕ → List Verdict
-point_tests own a b confusion before r count closing i =
+abbrev pub point_tests : (Row → Bool) → Patch → Patch → Float → Row → Row → Option ℕ → ℕ → List Verdict
+point_tests own a b confusion before r end i =
     asked (inside_of a b (parameters_in r)) (refusal.OutsideWindow i)
     ∷ asked (own r) (refusal.NotOwnPoint i)
     ∷ asked (distance_of (point_a a (parameters_in r)) (point_b b (parameters_in r)) ≤? confusion) (refusal.Gap i)
-    ∷ asked (chord_fits before r count closing i) (refusal.Chord i)
+    ∷ asked (chord_fits before r end i) (refusal.Chord i)
     ∷ []
 
 -- point i, of row r, after the row before
-unfoldable pub point_verdict : (Row → Bool) → Patch → Patch → Float → Row → Row → ℕ → ℕ → ℕ → Verdict
-point_verdict own a b confusion before r count closing i = first_refusal (point_tests own a b confusion before r count closing i)
+unfoldable pub point_verdict : (Row → Bool) → Patch → Patch → Float → Row → Row → Option ℕ → ℕ → Verdict
+point_verdict own a b confusion before r end i = first_refusal (point_tests own a b confusion before r end i)
 
 -- the first refusal ends the loop over the points
 abbrev pub stopped : Verdict → Flow (Unit {0}) Verdict
@@ -76,16 +76,16 @@ stopped (Err r) = out (Err r)
 stopped (Ok u) = on tt
 
 -- one iteration of it
-abbrev pub point_body : (Row → Bool) → Patch → Patch → Float → (ℕ → Row) → ℕ → ℕ → ℕ → Unit {0} → Flow (Unit {0}) Verdict
-point_body own a b confusion rows count closing i s = stopped (point_verdict own a b confusion (rows (i - 1)) (rows i) count closing i)
+abbrev pub point_body : (Row → Bool) → Patch → Patch → Float → (ℕ → Row) → Option ℕ → ℕ → Unit {0} → Flow (Unit {0}) Verdict
+point_body own a b confusion rows end i s = stopped (point_verdict own a b confusion (rows (i - 1)) (rows i) end i)
 
 -- no point was refused
 abbrev pub all_passed : Unit {0} → Verdict
 all_passed s = Ok tt
 
 -- all points, from 0 on
-unfoldable pub points_verdict : (Row → Bool) → Patch → Patch → Float → (ℕ → Row) → ℕ → ℕ → Verdict
-points_verdict own a b confusion rows count closing = searched (point_body own a b confusion rows count closing) all_passed 0 count (on tt)
+unfoldable pub points_verdict : (Row → Bool) → Patch → Patch → Float → (ℕ → Row) → ℕ → Option ℕ → Verdict
+points_verdict own a b confusion rows count end = searched (point_body own a b confusion rows end) all_passed 0 count (on tt)
 
 -- ---- 12: "count outside 4 to 4001, start index not below the count, closing code above 2, or a closing that isn't so"
 
@@ -111,7 +111,7 @@ check_tests a b tol l count start closing =
     pair_fitness a b tol
     ∷ asked (holds_of width l count) refusal.Lent
     ∷ asked (claim_so (row_of l) count start closing) refusal.Claim
-    ∷ points_verdict (is_own a) a b tol.confusion (row_of l) count closing
+    ∷ points_verdict (is_own a) a b tol.confusion (row_of l) count (closing_end count closing)
     ∷ []
 
 -- the public check of the first `count` points of a list

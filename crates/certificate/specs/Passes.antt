@@ -1,5 +1,5 @@
 -- What it means that a trace passes: the mission's conditions, one by one. Definitions only.
-use Rattle.std.specs.Prelude.{◌≡◌, Bool, false, ◌&&◌, List, ℕ, ◌-◌, ◌*◌, ◌≤◌, ◌<◌, T, eqb, length, Float, Ok}
+use Rattle.std.specs.Prelude.{◌≡◌, Bool, false, List, ℕ, ◌-◌, ◌*◌, ◌≤◌, ◌<◌, T, eqb, length, Float, Option, Some, None, Ok}
 use Rattle.std.specs.Float.Ieee.Scale.{finite}
 use Rattle.loops.specs.Loop.{pick}
 use Rattle.number.specs.Operators.{◌≤?◌}
@@ -22,9 +22,18 @@ parameters_in r = record { u1 = r.u1; v1 = r.v1; u2 = r.u2; v2 = r.v2 }
 abbrev pub parameters_at : List Float → ℕ → Parameters
 parameters_at l i = parameters_in (row_of l i)
 
--- "The closing chord is the last under code 1, the first under code 2; an open trace has none": chord i comes to point i from the one before
+-- "The closing chord is the last under code 1, the first under code 2; an open trace has none": the point that it comes to from the one before
+abbrev pub closing_end : ℕ → ℕ → Option ℕ
+closing_end count closing = pick (eqb closing 1) (Some (count - 1)) (pick (eqb closing 2) (Some 1) None)
+
+-- point i is that one
+abbrev pub ends_at : Option ℕ → ℕ → Bool
+ends_at None i = false
+ends_at (Some k) i = eqb k i
+
+-- the chord to point i from the one before is the closing one
 abbrev pub closing_chord : ℕ → ℕ → ℕ → Bool
-closing_chord count closing i = pick (eqb closing 1) (eqb i (count - 1)) (eqb closing 2 && eqb i 1)
+closing_chord count closing i = ends_at (closing_end count closing) i
 
 -- the parameters of a point are inside the windows that apply; A's point worked out afresh at them is finite and is the point itself (equal as
 -- values of the logic, which has one NaN and two zeros: equal in bits); its computed gap to B's is at most the confusion

@@ -1,12 +1,14 @@
-ghost use Rattle.std.specs.Prelude.{◌≡◌, ◌<◌};
+ghost use Rattle.std.specs.Prelude.{◌≡◌, ◌/◌, ◌<◌, length};
+ghost use Rattle.groups.specs.Groups.{width};
 ghost use Rattle.groups.specs.Row.{row_of};
-ghost use Rattle.certificate.specs.Passes.{closing_chord};
+ghost use Rattle.groups.specs.Traced.{code_of};
+ghost use Rattle.certificate.specs.Passes.{closing_end};
 ghost use Rattle.certificate.specs.Check.{is_own, finite_point, same_point, own_of, chord_fits, point_verdict, points_verdict, same_row, closing_so, claim_so, check_of};
 
 use geometry::point::LONGEST_CHORD;
 use geometry::{Point3D, Tolerance};
-use groups::Row;
-use groups::row::row_of;
+use groups::row::{row_of, rows};
+use groups::{Claim, Closing, Row, WIDTH};
 use patch::{Parameters, Patch};
 use refusal::{Refusal, asked};
 
@@ -29,29 +31,23 @@ fn own(stored: Point3D, fresh: Point3D) -> bool
     finite_point(fresh) && same_point(stored, fresh)
 }
 
-// Whether the chord to point i from the one before is the closing one.
-fn closing_chord(count: usize, closing: usize, i: usize) -> bool
+// The point that the closing chord comes to from the one before.
+fn closing_end(count: usize, closing: Closing) -> Option<usize>
     requires { 0 < count }
-    ensures { result ≡ closing_chord count closing i }
+    ensures { result ≡ closing_end count (code_of closing) }
 {
-    if closing == 1 {
-        return i == count - 1;
+    match closing {
+        Closing::Open => None,
+        Closing::Forward => Some(count - 1),
+        Closing::Backward => Some(1),
     }
-    closing == 2 && i == 1
 }
 
 // What refusal 16 lets through: the chord to point i from the one before.
-fn chord_fits(before: Row, row: Row, count: usize, closing: usize, i: usize) -> bool
-    requires { 0 < count }
-    ensures { result ≡ chord_fits before row count closing i }
+fn chord_fits(before: Row, row: Row, end: Option<usize>, i: usize) -> bool
+    ensures { result ≡ chord_fits before row end i }
 {
-    if i == 0 {
-        return true;
-    }
-    if closing_chord(count, closing, i) {
-        return true;
-    }
-    row.point().within(before.point(), LONGEST_CHORD)
+    i == 0 || (end == Some(i) || row.point().within(before.point(), LONGEST_CHORD))
 }
 
 // Refusals 14, 13, 15 and 16 of point i.
@@ -61,12 +57,10 @@ fn point_verdict(
     confusion: f64,
     before: Row,
     row: Row,
-    count: usize,
-    closing: usize,
+    end: Option<usize>,
     i: usize,
 ) -> Result<(), Refusal>
-    requires { 0 < count }
-    ensures { result ≡ point_verdict (is_own a) a b confusion before row count closing i }
+    ensures { result ≡ point_verdict (is_own a) a b confusion before row end i }
 {
     let x = Parameters {
         u1: row.u1,
@@ -79,10 +73,7 @@ fn point_verdict(
     asked(own(row.point(), fresh), Refusal::NotOwnPoint(i as u64))?;
     let other = b.surface.eval_point(x.u2, x.v2);
     asked(fresh.within(other, confusion), Refusal::Gap(i as u64))?;
-    asked(
-        chord_fits(before, row, count, closing, i),
-        Refusal::Chord(i as u64),
-    )
+    asked(chord_fits(before, row, end, i), Refusal::Chord(i as u64))
 }
 
 // The first refusal of a point. Each row is read once.
@@ -91,15 +82,14 @@ fn points_verdict(
     b: Patch,
     confusion: f64,
     points: &[f64],
-    count: usize,
-    closing: usize,
+    end: Option<usize>,
 ) -> Result<(), Refusal>
-    ensures { result ≡ points_verdict (is_own a) a b confusion (row_of points.now) count closing }
+    ensures { result ≡ points_verdict (is_own a) a b confusion (row_of points.now) (length points.now / width) end }
 {
     let mut before = row_of(points, 0);
-    for i in 0..count {
-        let row = row_of(points, i);
-        point_verdict(a, b, confusion, before, row, count, closing, i)?;
+    for (i, numbers) in rows(points).iter().enumerate() {
+        let row = Row::from(*numbers);
+        point_verdict(a, b, confusion, before, row, end, i)?;
         before = row;
     }
     Ok(())
@@ -109,51 +99,40 @@ fn points_verdict(
 fn same_row(p: Row, q: Row) -> bool
     ensures { result ≡ same_row p q }
 {
-    let left = p.numbers();
-    let right = q.numbers();
-    for k in 0..groups::WIDTH {
-        if !number::same_bits(left[k], right[k]) {
-            return false;
-        }
-    }
-    true
+    let (left, right) = (p.numbers(), q.numbers());
+    let mut pairs = left.iter().zip(right.iter());
+    pairs.all(|(x, y)| number::same_bits(*x, *y))
 }
 
 // Whether the trace is closed as the code says: 0 open, 1 forward, 2 backward.
-fn closing_so(points: &[f64], count: usize, start: usize, closing: usize) -> bool
-    requires { 0 < count }
-    ensures { result ≡ closing_so (row_of points.now) count start closing }
+// Kept (1): the code is the caller's claim, of any size; here 12 tests it.
+fn closing_so(points: &[f64], claim: Claim) -> bool
+    requires { 0 < claim.count }
+    ensures { result ≡ closing_so (row_of points.now) claim.count claim.start claim.code }
 {
-    if closing == 0 {
-        return true;
+    let first = row_of(points, 0);
+    match claim.code {
+        0 => true,
+        1 => claim.start == 0 && same_row(row_of(points, claim.count - 1), first),
+        2 => 2 <= claim.start && same_row(first, row_of(points, claim.start)),
+        _ => false,
     }
-    if closing == 1 {
-        return start == 0 && same_row(row_of(points, count - 1), row_of(points, 0));
-    }
-    closing == 2 && (2 <= start && same_row(row_of(points, 0), row_of(points, start)))
 }
 
 // What refusal 12 lets through.
-fn claim_so(points: &[f64], count: usize, start: usize, closing: usize) -> bool
-    ensures { result ≡ claim_so (row_of points.now) count start closing }
+fn claim_so(points: &[f64], claim: Claim) -> bool
+    ensures { result ≡ claim_so (row_of points.now) claim.count claim.start claim.code }
 {
-    groups::count_fits(count) && (start < count && closing_so(points, count, start, closing))
+    groups::count_fits(claim.count) && (claim.start < claim.count && closing_so(points, claim))
 }
 
-// Whether a trace of `count` points at the head of the list passes: refusals A's 1 to 4, B's, 5, 8, 12, then point by point 14, 13, 15, 16.
-pub fn check(
-    a: Patch,
-    b: Patch,
-    tol: Tolerance,
-    trace: &[f64],
-    count: usize,
-    start: usize,
-    closing: usize,
-) -> Result<(), Refusal>
-    ensures { result ≡ check_of a b tol trace.now count start closing }
+// Whether the trace claimed, at the head of the list, passes: refusals A's 1 to 4, B's, 5, 8, 12, then point by point 14, 13, 15, 16.
+pub fn check(a: Patch, b: Patch, tol: Tolerance, trace: &[f64], claim: Claim) -> Result<(), Refusal>
+    ensures { result ≡ check_of a b tol trace.now claim.count claim.start claim.code }
 {
     patch::pair_fitness(a, b, tol)?;
-    asked(groups::holds(trace, count), Refusal::Lent)?;
-    asked(claim_so(trace, count, start, closing), Refusal::Claim)?;
-    points_verdict(a, b, tol.confusion, trace, count, closing)
+    asked(groups::holds(trace, claim.count), Refusal::Lent)?;
+    asked(claim_so(trace, claim), Refusal::Claim)?;
+    let end = closing_end(claim.count, Closing::of_code(claim.code));
+    points_verdict(a, b, tol.confusion, &trace[..WIDTH * claim.count], end)
 }

@@ -2,11 +2,11 @@
 use mathlib.Core.Path.{◌≡◌, refl, sym, ap, ◌∙◌}
 use mathlib.Core.Bool.{Bool, not}
 use mathlib.Core.List.{List, [], ◌∷◌}
-use Prim.Native.Nat.{ℕ, suc, ◌+◌, ◌≤◌, ◌<◌}
+use Prim.Native.Nat.{ℕ, zero, suc, ◌+◌, ◌-◌, ◌≤◌, ◌<◌}
 use native.Mathlib.Omega.{arith}
 use lib.ListN.{length, get_or}
 use Rattle.std.specs.List.{list_any, list_all, fold}
-use Rattle.loops.specs.Loop.{ranged}
+use Rattle.loops.specs.Loop.{ranged, Flow, on, out, exits, searched}
 use Rattle.loops.specs.Any.{any_in}
 use Rattle.loops.proofs.Loop.{ranged_end, ranged_step}
 use Rattle.loops.proofs.Any.{cases, any_again, any_leave, any_done, any_found, any_at, any_none, any_fails}
@@ -28,6 +28,18 @@ pub any_same : (p q : ℕ → Bool) (a b : ℕ) → ((i : ℕ) → a ≤ i → i
 any_same p q a b same =
     cases (any_in p a b) (λ y. let f = any_found p a b y in y ∙ sym (any_at q a b f.0 f.1 f.2 (sym (same f.0 f.1 f.2) ∙ f.3)))
     (λ n. n ∙ sym (any_none q a b (λ i h k. sym (same i h k) ∙ any_fails p a b n i h k)))
+
+-- two searches that agree at every index
+pub searched_same : {S R : Type 0} (f g : ℕ → S → Flow S R) (end : S → R) (a b : ℕ) → ((i : ℕ) (s : S) → a ≤ i → i < b → f i s ≡ g i s) → (s : S)
+    → searched f end a b (on s) ≡ searched g end a b (on s)
+unfolding exits
+searched_same {S} {R} f g end a b same s = go (b - a) a (omega arith) (omega arith) (on s)
+  where
+    go : (k i : ℕ) → a ≤ i → i + k ≤ a + (b - a) → (w : Flow S R) → exits f end k i w ≡ exits g end k i w
+    go zero i h n (on s) = refl
+    go zero i h n (out r) = refl
+    go (suc k) i h n (on s) = ap (exits f end k (i + 1)) (same i s h (omega arith)) ∙ go k (i + 1) (omega arith) (omega arith) (g i s)
+    go (suc k) i h n (out r) = refl
 
 -- `all` fails where the search finds an item that fails
 pub not_all : {A : Type 0} (test : A → Bool) (xs : List A) → not (list_all test xs) ≡ list_any (λ x. not (test x)) xs

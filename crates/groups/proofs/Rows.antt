@@ -55,6 +55,11 @@ row_group l i =
     λ j k h f. get_or-take width (drop (width * i) l) j nan h ∙ number_from l (width * i) j k f in
     rw (e 0 (width * i) (omega arith) (omega arith), e 1 _ (omega arith) refl, e 2 _ (omega arith) refl, e 3 _ (omega arith) refl, e 4 _ (omega arith) refl, e 5 _ (omega arith) refl, e 6 _ (omega arith) refl)
 
+-- so group i of all that the list has is point i
+pub row_listed : (l : List Float) (i : ℕ) (d : List Float) → i < length l / width → row_from (get_or (first_chunks width (length l / width) l) i d) 0 ≡ row_of l i
+row_listed l i d h =
+    ap (λ (g : List Float). row_from g 0) (group_of width (length l / width) i l d h) ∙ row_group l i ∙ sym (row_there l i (omega arith))
+
 -- the first n points of a list
 abbrev pub points_of : List Float → ℕ → List Point3D
 points_of l n = map (λ (g : List Float). point_in (row_from g 0)) (first_chunks width n l)
@@ -86,3 +91,11 @@ count_taken l n h = let e = length-take-le (width * n) l h in omega arith
 
 pub points_taken : (l : List Float) (n : ℕ) → width * n ≤ length l → points_of (take (width * n) l) (length (take (width * n) l) / width) ≡ points_of l n
 points_taken l n h = ap (points_of (take (width * n) l)) (count_taken l n h) ∙ points_front l n (width * n) (omega arith)
+
+-- and point i of it is point i of the whole
+pub row_taken : (l : List Float) (n i : ℕ) → width * n ≤ length l → i < n → row_of (take (width * n) l) i ≡ row_of l i
+row_taken l n i h k =
+    let e : (j : ℕ) → j < width → get_or (take (width * n) l) (width * i + j) nan ≡ get_or l (width * i + j) nan =
+    λ j f. get_or-take (width * n) l (width * i + j) nan (omega arith) in
+    let all : row_at (take (width * n) l) i ≡ row_at l i = rw (e 1 (omega arith), e 2 (omega arith), e 3 (omega arith), e 4 (omega arith), e 5 (omega arith), e 6 (omega arith), get_or-take (width * n) l (width * i) nan (omega arith)) in
+    row_there (take (width * n) l) i (let m = length-take-le (width * n) l h in omega arith) ∙ all ∙ sym (row_there l i (omega arith))

@@ -1,20 +1,28 @@
 use borrow.Author.Tests.{eq-eqb, ne_eqb}
-use mathlib.Core.Path.{◌≡◌}
-use Rattle.certificate.specs.Passes.{closing_chord}
+use mathlib.Core.Path.{◌≡◌, refl, sym, ◌∙◌}
+use Prim.Native.Nat.{ℕ}
+use Rattle.std.specs.Prelude.{Option, Some, None, nat_eq}
+use Rattle.std.specs.Option.{option_eq}
+use Rattle.certificate.specs.Passes.{ends_at}
 use Rattle.certificate.specs.Check.{chord_fits}
 use Rattle.certificate.proofs.check.chord_fits.Goals as goal
+
+ends : (e : Option ℕ) (i : ℕ) → option_eq nat_eq e (Some i) ≡ ends_at e i
+ends None i = refl
+ends (Some k) i = refl
 
 pub returns-then-i-eq0 : goal.returns-then-i-eq0
 unfolding chord_fits
 returns-then-i-eq0 c = rw (eq-eqb _ _ c.if-i-eq0.true)
 
-pub returns-then-closing_chord : goal.returns-then-closing_chord
+pub returns-then-eq : goal.returns-then-eq
 unfolding chord_fits
-returns-then-closing_chord c =
-    let g = c.args in
-    let closing : c.closing_chord.result ≡ closing_chord g.count g.closing g.i = c.closing_chord.ensures in
-    rw (ne_eqb _ _ c.if-i-eq0.false, ← closing, c.if-closing_chord.true)
+returns-then-eq c =
+    let here : ends_at c.args.end c.args.i ≡ c.eq.result = sym (c.eq.ensures ∙ ends c.args.end c.args.i) in
+    rw (ne_eqb _ _ c.if-i-eq0.false, here, c.if-eq.true)
 
-pub returns : goal.returns
+pub returns-else-eq : goal.returns-else-eq
 unfolding chord_fits
-returns c = rw (c.within.ensures, c.point.ensures, c.point-2.ensures, ne_eqb _ _ c.if-i-eq0.false, ← c.closing_chord.ensures, c.if-closing_chord.false)
+returns-else-eq c =
+    let here : ends_at c.args.end c.args.i ≡ c.eq.result = sym (c.eq.ensures ∙ ends c.args.end c.args.i) in
+    rw (c.within.ensures, c.point.ensures, c.point-else-eq.ensures, ne_eqb _ _ c.if-i-eq0.false, here, c.if-eq.false)

@@ -1,13 +1,12 @@
-use mathlib.Core.Path.{sym, ap, ◌∙◌}
+use mathlib.Core.Path.{ap, ◌∙◌}
 use mathlib.Core.List.{List}
 use Prim.Native.Nat.{◌/◌}
-use native.Mathlib.Omega.{arith}
 use lib.Ieee.{Float}
 use lib.ListN.{length}
 use borrow.Author.Tests.{le-ltb}
 use Rattle.groups.specs.Groups.{width}
 use Rattle.groups.specs.Row.{row_from, row_of}
-use Rattle.groups.proofs.Rows.{length_groups, group_of, row_group, row_there}
+use Rattle.groups.proofs.Rows.{length_groups, row_listed}
 use Rattle.groups.proofs.row.row_of.Goals as goal
 
 pub returns-in-Some : goal.returns-in-Some
@@ -16,7 +15,7 @@ returns-in-Some c =
     let n = length l / width in
     let h = rw (c.rows.ensures, length_groups width n l) at c.in-Some.ensures.lookup.3.0 in
     let e = rw c.rows.ensures at c.in-Some.ensures.lookup.1 in
-    c.from.ensures ∙ ap (λ (m : List Float). row_from m 0) (e ∙ group_of width n c.args.i l _ h) ∙ row_group l c.args.i ∙ sym (row_there l c.args.i (omega arith))
+    c.from.ensures ∙ ap (λ (m : List Float). row_from m 0) e ∙ row_listed l c.args.i _ h
 
 pub returns-in-None : goal.returns-in-None
 unfolding row_of
