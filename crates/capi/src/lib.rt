@@ -151,6 +151,17 @@ fn checked_word(answer: Result<(), Refusal>) -> u64
     }
 }
 
+// What C claims of a trace.
+fn claim(count: u64, start: u64, code: u64) -> Claim
+    ensures { result ≡ record { count = count; start = start; code = code } }
+{
+    Claim {
+        count: count as usize,
+        start: start as usize,
+        code: code as usize,
+    }
+}
+
 // Checks a claimed trace against the surfaces and tolerance of a job file; its guess and cap aren't read. The word is 0 exactly when the
 // bytes are a job and the trace passes.
 pub fn geomcore_check(job: &[u8], buffer: &[f64], count: u64, start: u64, code: u64) -> u64
@@ -158,15 +169,12 @@ pub fn geomcore_check(job: &[u8], buffer: &[f64], count: u64, start: u64, code: 
 {
     match job::file::read(job) {
         Err(refusal) => refusal.number(),
-        Ok(asked) => checked_word(geomcore::call::check(
-            asked.a,
-            asked.b,
-            asked.tol,
-            buffer,
-            count as usize,
-            start as usize,
-            code as usize,
-        )),
+        Ok(asked) => {
+            let claim = claim(count, start, code);
+            checked_word(geomcore::call::check(
+                asked.a, asked.b, asked.tol, buffer, claim,
+            ))
+        }
     }
 }
 

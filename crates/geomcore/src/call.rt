@@ -40,7 +40,7 @@ pub fn trace(
     walk::trace::trace(a, b, tol, guess, cap, &mut *buffer)
 }
 
-// Whether the trace of `count` points at the front of the list is one of A and B: passed exactly when `Passes` holds. Refused, in this
+// Whether the trace claimed, at the front of the list, is one of A and B: passed exactly when `Passes` holds. Refused, in this
 // order: 1 to 4 for A, the same for B, 5, 8 fewer than 7 numbers for each point claimed, 12 a count outside 4 to 4001, a start index not
 // below it, a code above 2 or a closing that is not so; then point by point, with the point's index, 14 a parameter outside its window,
 // 13 not A's own point, 15 a gap not at most the confusion, 16 a chord not at most 0.2. It writes nothing. At each point of a trace that
@@ -50,13 +50,11 @@ pub fn check(
     b: Patch,
     tol: Tolerance,
     trace: &[f64],
-    count: usize,
-    start: usize,
-    closing: usize,
+    claim: Claim,
 ) -> Result<(), Refusal>
-    ensures { CheckPromise a b tol trace.now count start closing result }
+    ensures { CheckPromise a b tol trace.now claim.count claim.start claim.code result }
 {
-    certificate::check::check(a, b, tol, trace, count, start, closing)
+    certificate::check::check(a, b, tol, trace, claim)
 }
 
 // Whether the trace of `count` points at the front of the list crosses the box, grown by 8000 times the confusion: yes exactly when some

@@ -6,4 +6,4 @@ use Rattle.geomcore.proofs.call.check.Goals as goal
 pub returns : goal.returns
 returns c =
     let g = c.args in
-    check_promised g.a g.b g.tol g.trace.now g.count g.start g.closing c.shared_slice_known-1.given c.check.ensures
+    check_promised g.a g.b g.tol g.trace.now g.claim.count g.claim.start g.claim.code c.shared_slice_known-1.given c.check.ensures
