@@ -237,11 +237,7 @@ fn written_word(answer: Result<usize, Refusal>) -> u64
 pub fn geomcore_write_v1(buffer: &[f64], count: u64, start: u64, code: u64, file: &mut [u8]) -> u64
     ensures { WriteWord buffer.now count start code file.old file.new result }
 {
-    let claim = Claim {
-        count: count as usize,
-        start: start as usize,
-        code: code as usize,
-    };
+    let claim = claim(count, start, code);
     written_word(geomcore::call::write_v1(buffer, claim, file))
 }
 

@@ -48,7 +48,7 @@ same_zip (x ∷ l) (y ∷ m) e = ap (λ (t : Bool). same_bits x y && t) (same_zi
 
 pub verdict_taken : (a b : Patch) (confusion : Float) (l : List Float) (n : ℕ) (end : Option ℕ) → width * n ≤ length l
     → points_verdict (is_own a) a b confusion (row_of (take (width * n) l)) (length (take (width * n) l) / width) end
-      ≡ points_verdict (is_own a) a b confusion (row_of l) n end
+    ≡ points_verdict (is_own a) a b confusion (row_of l) n end
 unfolding points_verdict
 verdict_taken a b confusion l n end h =
     let part = point_body (is_own a) a b confusion (row_of (take (width * n) l)) end in

@@ -29,7 +29,7 @@ closing_end count closing = pick (eqb closing 1) (Some (count - 1)) (pick (eqb c
 -- point i is that one
 abbrev pub ends_at : Option ℕ → ℕ → Bool
 ends_at None i = false
-ends_at (Some k) i = eqb k i
+ends_at (Some k) i = eqb i k
 
 -- the chord to point i from the one before is the closing one
 abbrev pub closing_chord : ℕ → ℕ → ℕ → Bool

@@ -7,6 +7,7 @@ use Rattle.refusal.specs.Refusal as refusal
 use Rattle.groups.specs.declared.traced.Closing.{Closing}
 use Rattle.groups.specs.declared.traced.Closing.TheVariants.{Open, Forward, Backward}
 use Rattle.groups.specs.declared.traced.Traced.{Traced}
+use Rattle.groups.specs.declared.traced.Claim.{Claim}
 
 -- "the closing code: 0 open, 1 closed forward, 2 closed backward"
 abbrev pub code_of : Closing → ℕ
@@ -17,6 +18,10 @@ code_of Backward = 2
 -- the closing of a code; "closing code above 2" is refused, and counts as 2 here
 abbrev pub closing_at : ℕ → Closing
 closing_at code = pick (eqb code 0) Open (pick (eqb code 1) Forward Backward)
+
+-- what a trace claims of itself: its own count, start and code
+abbrev pub claim_of : Traced → Claim
+claim_of line = record { count = line.count; start = line.start; code = code_of line.closing }
 
 -- the trace, or why it is refused
 abbrev pub TraceAnswer : Type 0

@@ -1,5 +1,5 @@
 ghost use Rattle.std.specs.Prelude.{◌≡◌};
-ghost use Rattle.groups.specs.Traced.{code_of, closing_at};
+ghost use Rattle.groups.specs.Traced.{code_of, closing_at, claim_of};
 
 // How a line ends: open, or come round to its start in its forward or in its backward half.
 #[derive(Clone, Copy)]
@@ -48,4 +48,17 @@ pub struct Claim {
     pub count: usize,
     pub start: usize,
     pub code: usize,
+}
+
+// A trace's own.
+impl From<Traced> for Claim {
+    ghost from_gives = { λ line claim. claim ≡ claim_of line };
+
+    fn from(line: Traced) -> Claim {
+        Claim {
+            count: line.count,
+            start: line.start,
+            code: line.closing.code(),
+        }
+    }
 }

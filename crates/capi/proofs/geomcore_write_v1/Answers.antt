@@ -5,4 +5,4 @@ pub written_word-requires : goal.written_word-requires
 written_word-requires c = bytes_fit c.write_v1.ensures
 
 pub returns : goal.returns
-returns c = written_word_lem c.write_v1.ensures c.written_word.ensures
+returns c = written_word_lem (rw c.claim-claim.ensures at c.write_v1.ensures) c.written_word.ensures

@@ -1,15 +1,18 @@
-use borrow.Author.Tests.{eq-eqb, ne_eqb}
+use borrow.Author.Tests.{eq-eqb, ne_eqb, eqb-true, eqb-false}
 use mathlib.Core.Path.{◌≡◌, refl, sym, ◌∙◌}
 use Prim.Native.Nat.{ℕ}
 use Rattle.std.specs.Prelude.{Option, Some, None, nat_eq}
 use Rattle.std.specs.Option.{option_eq}
+use lib.Dec.{eqb}
+use Rattle.loops.proofs.Any.{cases}
 use Rattle.certificate.specs.Passes.{ends_at}
 use Rattle.certificate.specs.Check.{chord_fits}
 use Rattle.certificate.proofs.check.chord_fits.Goals as goal
 
 ends : (e : Option ℕ) (i : ℕ) → option_eq nat_eq e (Some i) ≡ ends_at e i
 ends None i = refl
-ends (Some k) i = refl
+ends (Some k) i =
+    cases (eqb k i) (λ t. t ∙ sym (eq-eqb i k (sym (eqb-true k i t)))) (λ f. f ∙ sym (ne_eqb i k (λ e. eqb-false k i f (sym e))))
 
 pub returns-then-i-eq0 : goal.returns-then-i-eq0
 unfolding chord_fits
