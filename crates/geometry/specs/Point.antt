@@ -1,5 +1,6 @@
 -- Points, in the order of evaluation of point.rs, and the exact squared gap of two. Definitions only.
-use Rattle.std.specs.Prelude.{ℕ, ◌+◌, ◌*◌, Bool, ◌&&◌, nat_abs, ◌-ℤ◌, Float}
+use Rattle.std.specs.Prelude.{ℕ, ◌+◌, ◌*◌, Bool, ◌&&◌, nat_abs, ◌-ℤ◌, List, get_or, Float}
+use Rattle.std.specs.Float.{nan}
 use Rattle.number.specs.Operators.{bits, ◌⊕◌, ◌⊖◌, ◌⊗◌}
 use Rattle.number.specs.Helpers.{number_fit}
 use Rattle.number.specs.Units.{in_units}
@@ -10,6 +11,10 @@ use Rattle.geometry.specs.declared.point.Point3D.{Point3D}
 -- Point3D::new
 unfoldable pub point_of : Float → Float → Float → Point3D
 point_of x y z = record { x = x; y = y; z = z }
+
+-- a point's three numbers in their order
+abbrev pub point_of_numbers : List Float → Point3D
+point_of_numbers s = point_of (get_or s 0 nan) (get_or s 1 nan) (get_or s 2 nan)
 
 -- distance: "A gap or chord is the square root of the sum of the three squared differences"
 unfoldable pub distance_of : Point3D → Point3D → Float

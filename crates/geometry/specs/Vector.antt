@@ -1,5 +1,6 @@
 -- Vectors, in the order of evaluation of vector.rs. Definitions only.
-use Rattle.std.specs.Prelude.{Float}
+use Rattle.std.specs.Prelude.{List, get_or, Float}
+use Rattle.std.specs.Float.{nan}
 use Rattle.std.specs.Float.Ieee.{neg}
 use Rattle.number.specs.Operators.{bits, ◌⊕◌, ◌⊖◌, ◌⊗◌}
 use Rattle.sqrt.specs.Sqrt.{sqrt_of}
@@ -8,6 +9,10 @@ use Rattle.geometry.specs.declared.vector.Vector3D.{Vector3D}
 -- Vector3D::new
 unfoldable pub vector_of : Float → Float → Float → Vector3D
 vector_of x y z = record { x = x; y = y; z = z }
+
+-- a vector's three numbers in their order
+abbrev pub vector_of_numbers : List Float → Vector3D
+vector_of_numbers s = vector_of (get_or s 0 nan) (get_or s 1 nan) (get_or s 2 nan)
 
 -- Vector3D::ZERO
 unfoldable pub zero_vector : Vector3D

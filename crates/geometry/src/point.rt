@@ -1,6 +1,6 @@
 ghost use Rattle.std.specs.Prelude.{◌≡◌};
 ghost use Rattle.number.specs.Operators.{◌≤?◌};
-ghost use Rattle.geometry.specs.Point.{point_of, distance_of, add_vector_of, difference_of, point_fit};
+ghost use Rattle.geometry.specs.Point.{point_of, distance_of, add_vector_of, difference_of, point_fit, point_of_numbers};
 
 use crate::vector::Vector3D;
 use std::ops::{Add, Sub};
@@ -44,6 +44,15 @@ impl Point3D {
         ensures { result ≡ point_fit self }
     {
         number::number_fit(self.x) && (number::number_fit(self.y) && number::number_fit(self.z))
+    }
+}
+
+// The coordinates in their order.
+impl From<[f64; 3]> for Point3D {
+    ghost from_gives = { λ numbers p. p ≡ point_of_numbers numbers };
+
+    fn from([x, y, z]: [f64; 3]) -> Point3D {
+        Point3D::new(x, y, z)
     }
 }
 

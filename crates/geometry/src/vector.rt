@@ -1,7 +1,7 @@
 //! Vectors by value, after the Rust's vector.rs. Every operation rounds once, in the Rust's order of evaluation.
 ghost use Rattle.std.specs.Prelude.{◌≡◌};
 ghost use Rattle.number.specs.Operators.{◌≤?◌};
-ghost use Rattle.geometry.specs.Vector.{vector_of, dot_of, cross_of, magnitude_of, square_magnitude_of, add_of, neg_of, scale_of, times_of};
+ghost use Rattle.geometry.specs.Vector.{vector_of, dot_of, cross_of, magnitude_of, square_magnitude_of, add_of, neg_of, scale_of, times_of, vector_of_numbers};
 
 use std::ops::{Add, Mul, Neg};
 
@@ -58,6 +58,15 @@ impl Vector3D {
         ensures { result ≡ (magnitude_of self ≤? bound) }
     {
         sqrt::at_most(self.square_magnitude(), bound)
+    }
+}
+
+// The coordinates in their order.
+impl From<[f64; 3]> for Vector3D {
+    ghost from_gives = { λ numbers v. v ≡ vector_of_numbers numbers };
+
+    fn from([x, y, z]: [f64; 3]) -> Vector3D {
+        Vector3D::new(x, y, z)
     }
 }
 

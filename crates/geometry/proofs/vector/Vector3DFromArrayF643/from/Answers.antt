@@ -1,0 +1,4 @@
+use Rattle.geometry.proofs.vector.Vector3DFromArrayF643.from.Goals as goal
+
+pub returns : goal.returns
+returns c = c.new.ensures
