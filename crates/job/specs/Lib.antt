@@ -1,2 +1,3 @@
 pub mod Layout
+pub mod Marks
 pub mod File

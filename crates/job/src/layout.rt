@@ -3,9 +3,6 @@
 // Of a surface, from its first byte on, where its kind stands.
 pub(crate) const MARKS: usize = 1;
 
-// 1 for u and 2 for v, added.
-pub(crate) const BOTH_MARKS: u64 = 3;
-
 pub(crate) const FRAME: usize = 2;
 
 pub(crate) const FIRST_SIZE: usize = 98;

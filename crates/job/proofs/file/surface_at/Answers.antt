@@ -1,24 +1,40 @@
-use borrow.Author.Tests.{le-ltb, lt-ltb, not-true, not-false}
+use Rattle.std.proofs.Common.{◌≡◌, ◌<◌, Err, sym, ◌∙◌, rules}
+use native.Mathlib.Omega.{arith}
+use borrow.Author.Tests.{le-ltb, lt-ltb}
+use Rattle.wire.specs.Wire.{byte_at}
+use Rattle.refusal.specs.declared.Refusal.TheVariants.{JobFile}
+use Rattle.refusal.proofs.Order.{asked_held, asked_failed}
 use Rattle.job.specs.Layout.{both_marks}
 use Rattle.job.specs.File.{surface_at}
+use Rattle.job.proofs.Parts.{number_at_most, mark_at_most}
 use Rattle.job.proofs.file.surface_at.Goals as goal
 
-pub returns-then-kind-gt4 : goal.returns-then-kind-gt4
+pub returns-in_default : goal.returns-in_default
 unfolding surface_at
-returns-then-kind-gt4 c = rw (lt-ltb 4 _ c.if-kind-gt4.true)
+returns-in_default c =
+    let above : 4 < byte_at c.args.bytes.now c.args.at = omega (arith, c.in_default.ensures, c.from.ensures) in
+    rw (lt-ltb 4 _ above)
 
-pub returns-then-marks-gt-BOTH_MARKS : goal.returns-then-marks-gt-BOTH_MARKS
+pub returns-in_err-marks : goal.returns-in_err-marks
 unfolding surface_at
-returns-then-marks-gt-BOTH_MARKS c = rw (le-ltb 4 _ c.if-kind-gt4.false, lt-ltb both_marks _ c.if-marks-gt-BOTH_MARKS.true)
+returns-in_err-marks c =
+    let e : c.from_residual.result ≡ Err c.in_err-marks.field-0.0 = search rules in
+    let m = rw c.in_err-marks.was at c.try_from-2.ensures in
+    rw (e, m.0, ← c.from.ensures, ← c.in-Ok.ensures, le-ltb 4 _ (number_at_most c.in-Ok.kind), ← c.from-2.ensures, lt-ltb both_marks _ m.1)
 
-pub returns-then-not-unused_clear : goal.returns-then-not-unused_clear
+pub returns-in_err-asked : goal.returns-in_err-asked
 unfolding surface_at
-returns-then-not-unused_clear c =
-    rw (← c.uint-first.ensures.value, ← c.uint-second.ensures.value)
-    (rw (le-ltb 4 _ c.if-kind-gt4.false, le-ltb both_marks _ c.if-marks-gt-BOTH_MARKS.false, ← c.unused_clear.ensures, not-true c.unused_clear.result c.if-not-unused_clear.true-raw))
+returns-in_err-asked c =
+    let e : c.from_residual-in_err-asked.result ≡ Err c.in_err-asked.field-0.0 = search rules in
+    let f = asked_failed c.unused_clear.result JobFile (sym c.asked.ensures ∙ c.in_err-asked.was) in
+    let m = rw c.in_ok-marks.was at c.try_from-2.ensures in
+    rw (e, f.1, ← c.from.ensures, ← c.in-Ok.ensures, le-ltb 4 _ (number_at_most c.in-Ok.kind), ← c.from-2.ensures, ← m, le-ltb both_marks _ (mark_at_most c.in_ok-marks.marks))
+    (rw (← c.uint-first.ensures.value, ← c.uint-second.ensures.value, ← c.unused_clear.ensures, f.0))
 
 pub returns : goal.returns
 unfolding surface_at
 returns c =
-    rw (← c.uint-first.ensures.value, ← c.uint-second.ensures.value)
-    (rw (le-ltb 4 _ c.if-kind-gt4.false, le-ltb both_marks _ c.if-marks-gt-BOTH_MARKS.false, ← c.unused_clear.ensures, not-false c.unused_clear.result c.if-not-unused_clear.false-raw, ← c.patch_at.ensures))
+    let h = asked_held c.unused_clear.result JobFile (sym c.asked.ensures ∙ c.in_ok-asked.was) in
+    let m = rw c.in_ok-marks.was at c.try_from-2.ensures in
+    rw (← c.from.ensures, ← c.in-Ok.ensures, le-ltb 4 _ (number_at_most c.in-Ok.kind), ← c.from-2.ensures, ← m, le-ltb both_marks _ (mark_at_most c.in_ok-marks.marks))
+    (rw (← c.uint-first.ensures.value, ← c.uint-second.ensures.value, ← c.unused_clear.ensures, h, ← c.patch_at.ensures))

@@ -1,23 +1,22 @@
+use mathlib.Core.Logic.{⊎_elim}
+use mathlib.Core.Path.{◌≡◌}
 use borrow.Author.Tests.{eq-eqb, ne_eqb}
+use Rattle.analytic.specs.declared.kind.Kind.TheVariants.{Cylinder, Cone, Sphere, Torus}
 use Rattle.job.specs.File.{unused_clear}
 use Rattle.job.proofs.file.unused_clear.Goals as goal
 
 pub returns-then-first-eq0 : goal.returns-then-first-eq0
 unfolding unused_clear
-returns-then-first-eq0 c = rw (eq-eqb _ _ c.if-kind-eq0.true, eq-eqb _ _ c.if-first-eq0.true)
+returns-then-first-eq0 c = rw (c.in-Plane.is, eq-eqb _ _ c.if-first-eq0.true)
 
 pub returns-else-first-eq0 : goal.returns-else-first-eq0
 unfolding unused_clear
-returns-else-first-eq0 c = rw (eq-eqb _ _ c.if-kind-eq0.true, ne_eqb _ _ c.if-first-eq0.false)
+returns-else-first-eq0 c = rw (c.in-Plane.is, ne_eqb _ _ c.if-first-eq0.false)
 
-pub returns-then-kind-eq1 : goal.returns-then-kind-eq1
+pub returns-in-Cylinder : goal.returns-in-Cylinder
 unfolding unused_clear
-returns-then-kind-eq1 c = rw (ne_eqb _ _ c.if-kind-eq0.false, eq-eqb _ _ c.if-kind-eq1.true)
+returns-in-Cylinder c = ⊎_elim (λ (e : c.args.kind ≡ Cylinder). rw e) (λ (e : c.args.kind ≡ Sphere). rw e) c.in-Cylinder.is
 
-pub returns-then-kind-eq3 : goal.returns-then-kind-eq3
+pub returns-in-Cone : goal.returns-in-Cone
 unfolding unused_clear
-returns-then-kind-eq3 c = rw (ne_eqb _ _ c.if-kind-eq0.false, ne_eqb _ _ c.if-kind-eq1.false, eq-eqb _ _ c.if-kind-eq3.true)
-
-pub returns : goal.returns
-unfolding unused_clear
-returns c = rw (ne_eqb _ _ c.if-kind-eq0.false, ne_eqb _ _ c.if-kind-eq1.false, ne_eqb _ _ c.if-kind-eq3.false)
+returns-in-Cone c = ⊎_elim (λ (e : c.args.kind ≡ Cone). rw e) (λ (e : c.args.kind ≡ Torus). rw e) c.in-Cone.is
