@@ -1,12 +1,12 @@
--- The parts of a surface's bytes: a kind and marks by their numbers, points and directions by three numbers.
+-- The parts of a job file: a kind and marks by their numbers, points and directions by three numbers, the guess by four.
 use mathlib.Core.Path.{◌≡◌, refl}
 use mathlib.Core.Bool.{Bool, true, false}
-use mathlib.Core.List.{List}
+use mathlib.Core.List.{List, [], ◌∷◌}
 use Prim.Native.Nat.{ℕ, ◌+◌, ◌≤◌}
 use native.Mathlib.Omega.{arith}
 use lib.Ieee.{Float}
 use Rattle.loops.specs.Loop.{pick}
-use Rattle.wire.specs.Wire.{numbers_from}
+use Rattle.wire.specs.Wire.{number_at, numbers_from}
 use Rattle.geometry.specs.Point.{point_of, point_of_numbers}
 use Rattle.geometry.specs.Vector.{vector_of, vector_of_numbers}
 use Rattle.geometry.specs.declared.frame.Frame3D.{Frame3D}
@@ -66,7 +66,7 @@ most_lem false false = omega arith
 pub mark_at_most : (m : Marks) → mark_number m ≤ both_marks
 mark_at_most m = most_lem m.u m.v
 
--- ---- three numbers
+-- ---- numbers one behind the other
 
 pub origin_of_three : (s : List ℕ) (at : ℕ) → point_of_numbers (numbers_from s at 3) ≡ origin_at s at
 unfolding numbers_from point_of origin_at
@@ -79,3 +79,10 @@ unfolding numbers_from vector_of direction_at
 direction_of_three s at =
     let e : at + 8 + 8 ≡ at + 16 = omega arith in
     rw e
+
+pub four_numbers : (s : List ℕ) (at : ℕ) → numbers_from s at 4 ≡ number_at s at ∷ number_at s (at + 8) ∷ number_at s (at + 16) ∷ number_at s (at + 24) ∷ []
+unfolding numbers_from
+four_numbers s at =
+    let third : at + 8 + 8 ≡ at + 16 = omega arith in
+    let fourth : at + 8 + 8 + 8 ≡ at + 24 = omega arith in
+    rw (fourth, third)
