@@ -3,10 +3,13 @@
 //! The input of a step holds 54 numbers. Each of two patches is 21: the kind (below 1 plane, below 2 cylinder, below 3 cone, below 4 sphere, else
 //! torus), the frame's origin, x, y and z direction, two sizes (used ones first), then low, high and mark (above 0) of u and of v.
 //! Confusion, angular and four parameters follow, then what a function asks beside them.
-ghost use Rattle.std.specs.Prelude.{◌≡◌, ◌+◌, ◌≤◌, length};
-ghost use Rattle.probe.specs.Call.{point_from, vector_from, frame_from, surface_from, window_from, patch_from, parameters_from, call_from, put_three, put_parameters};
+ghost use Rattle.std.specs.Prelude.{◌≡◌, ◌+◌, ◌≤◌, length, Float};
+ghost use Rattle.analytic.specs.Kind.{surface_as};
+ghost use Rattle.geometry.specs.declared.frame.Frame3D.{Frame3D};
+ghost use Rattle.probe.specs.Call.{frame_from, surface_from, window_from, patch_from, parameters_from, call_from, put_three, put_parameters};
 
-use analytic::Surface;
+use crate::numbers;
+use analytic::Kind;
 use geometry::{Frame3D, Point3D, Tolerance, Vector3D};
 use patch::{Parameters, Patch, Window};
 
@@ -19,47 +22,33 @@ pub struct Call {
     pub tol: Tolerance,
 }
 
-pub fn point(input: &[f64], at: usize) -> Point3D
-    requires { at + 3 ≤ length input.now }
-    ensures { result ≡ point_from input.now at }
-{
-    Point3D::new(input[at], input[at + 1], input[at + 2])
-}
-
-pub fn vector(input: &[f64], at: usize) -> Vector3D
-    requires { at + 3 ≤ length input.now }
-    ensures { result ≡ vector_from input.now at }
-{
-    Vector3D::new(input[at], input[at + 1], input[at + 2])
-}
-
 pub fn frame(input: &[f64], at: usize) -> Frame3D
     requires { at + 12 ≤ length input.now }
     ensures { result ≡ frame_from input.now at }
 {
-    let origin = point(input, at);
-    let x = vector(input, at + 3);
-    let y = vector(input, at + 6);
-    let z = vector(input, at + 9);
+    let origin = Point3D::from(numbers::<3>(input, at));
+    let x = Vector3D::from(numbers::<3>(input, at + 3));
+    let y = Vector3D::from(numbers::<3>(input, at + 6));
+    let z = Vector3D::from(numbers::<3>(input, at + 9));
     Frame3D { origin, x, y, z }
 }
 
-fn surface(kind: f64, f: Frame3D, a: f64, b: f64) -> Surface
-    ensures { result ≡ surface_from kind f a b }
+fn kind(number: f64) -> Kind
+    ensures { (f : Frame3D) (a b : Float) → surface_as result f a b ≡ surface_from number f a b }
 {
-    if kind < 1.0 {
-        return Surface::Plane(f);
+    if number < 1.0 {
+        return Kind::Plane;
     }
-    if kind < 2.0 {
-        return Surface::Cylinder(f, a);
+    if number < 2.0 {
+        return Kind::Cylinder;
     }
-    if kind < 3.0 {
-        return Surface::Cone(f, a, b);
+    if number < 3.0 {
+        return Kind::Cone;
     }
-    if kind < 4.0 {
-        return Surface::Sphere(f, a);
+    if number < 4.0 {
+        return Kind::Sphere;
     }
-    Surface::Torus(f, a, b)
+    Kind::Torus
 }
 
 fn window(input: &[f64], at: usize) -> Window
@@ -78,7 +67,7 @@ fn patch_at(input: &[f64], at: usize) -> Patch
     ensures { result ≡ patch_from input.now at }
 {
     let f = frame(input, at + 1);
-    let surface = surface(input[at], f, input[at + 13], input[at + 14]);
+    let surface = kind(input[at]).surface(f, input[at + 13], input[at + 14]);
     let u = window(input, at + 15);
     let v = window(input, at + 18);
     Patch { surface, u, v }
@@ -96,8 +85,7 @@ pub fn parameters(input: &[f64], at: usize) -> Parameters
     }
 }
 
-pub fn read(input: &[f64]) -> Call
-    requires { 54 ≤ length input.now }
+pub fn read(input: &[f64; 54]) -> Call
     ensures { result ≡ call_from input.now }
 {
     let a = patch_at(input, 0);
@@ -121,8 +109,7 @@ pub fn put(output: &mut [f64], at: usize, x: f64, y: f64, z: f64)
     output[at + 2] = z;
 }
 
-pub fn put_parameters(output: &mut [f64], x: Parameters)
-    requires { 4 ≤ length output.old }
+pub fn put_parameters(output: &mut [f64; 4], x: Parameters)
     ensures { output.new ≡ put_parameters output.old x }
 {
     output[0] = x.u1;

@@ -2,21 +2,24 @@
 //!
 //! The input is that of the module `call`. An answer's numbers go to the front of the output, which holds 4 or more. A slice too short is
 //! answered 9. Where no number is answered the output is as it was.
-ghost use Rattle.std.specs.Prelude.{◌≡◌, ◌≤◌, length};
+ghost use Rattle.std.specs.Prelude.{◌≡◌};
 ghost use Rattle.refusal.specs.declared.Refusal.{Refusal};
 ghost use Rattle.meeting.specs.declared.newton.Met.TheVariants.{Refused};
 ghost use Rattle.meeting.specs.Newton.{Unmet};
 ghost use Rattle.probe.specs.Probe.{probed};
+ghost use Rattle.probe.specs.Call.{call_from};
 ghost use Rattle.probe.specs.Steps.{probe_tangent, probe_predict, probe_leaving, probe_meet, probe_meet_in_plane, probe_land, probe_step, written_met};
 
-use crate::call::{Call, parameters, point, put, put_parameters, read, vector};
+use crate::call::{parameters, put, put_parameters, read};
+use crate::numbers;
+use geometry::{Point3D, Vector3D};
 use meeting::Met;
 
 // 1 and the direction, or 0.
-fn probe_tangent(c: Call, output: &mut [f64]) -> u64
-    requires { 4 ≤ length output.old }
-    ensures { probed result output.new ≡ probe_tangent c output.old }
+fn probe_tangent(input: &[f64; 54], output: &mut [f64; 4]) -> u64
+    ensures { probed result output.new ≡ probe_tangent (call_from input.now) output.old }
 {
+    let c = read(input);
     match tangent::tangent(c.a, c.b, c.x, c.tol) {
         Some(d) => {
             put(output, 0, d.x, d.y, d.z);
@@ -27,21 +30,21 @@ fn probe_tangent(c: Call, output: &mut [f64]) -> u64
 }
 
 // 1 and the parameters moved by the displacement, the numbers from 48 on.
-fn probe_predict(c: Call, input: &[f64], output: &mut [f64]) -> u64
-    requires { (54 ≤ length input.now) × (4 ≤ length output.old) }
-    ensures { probed result output.new ≡ probe_predict c input.now output.old }
+fn probe_predict(input: &[f64; 54], output: &mut [f64; 4]) -> u64
+    ensures { probed result output.new ≡ probe_predict (call_from input.now) input.now output.old }
 {
-    let d = vector(input, 48);
+    let c = read(input);
+    let d = Vector3D::from(numbers::<3>(input, 48));
     let y = marching::predict::predict(c.a, c.b, c.x, d);
     put_parameters(output, y);
     1
 }
 
 // The index and the bound, or 4 where the move to the parameters from 48 on leaves no window.
-fn probe_leaving(c: Call, input: &[f64], output: &mut [f64]) -> u64
-    requires { (54 ≤ length input.now) × (4 ≤ length output.old) }
-    ensures { probed result output.new ≡ probe_leaving c input.now output.old }
+fn probe_leaving(input: &[f64; 54], output: &mut [f64; 4]) -> u64
+    ensures { probed result output.new ≡ probe_leaving (call_from input.now) input.now output.old }
 {
+    let c = read(input);
     let y = parameters(input, 48);
     match marching::leaving::leaving(c.a, c.b, c.x, y) {
         Some(exit) => {
@@ -53,8 +56,8 @@ fn probe_leaving(c: Call, input: &[f64], output: &mut [f64]) -> u64
 }
 
 // 1 and the meeting, or the refusal: 2^8 times its number, 2^16 times its round and 2^24 times its column.
-fn put_met(met: Met, output: &mut [f64]) -> u64
-    requires { (4 ≤ length output.old) × ((q : Refusal) → met ≡ Refused q → Unmet 4 q) }
+fn put_met(met: Met, output: &mut [f64; 4]) -> u64
+    requires { (q : Refusal) → met ≡ Refused q → Unmet 4 q }
     ensures { probed result output.new ≡ written_met met output.old }
 {
     match met {
@@ -70,20 +73,20 @@ fn put_met(met: Met, output: &mut [f64]) -> u64
 }
 
 // A meeting.
-fn probe_meet(c: Call, output: &mut [f64]) -> u64
-    requires { 4 ≤ length output.old }
-    ensures { probed result output.new ≡ probe_meet c output.old }
+fn probe_meet(input: &[f64; 54], output: &mut [f64; 4]) -> u64
+    ensures { probed result output.new ≡ probe_meet (call_from input.now) output.old }
 {
+    let c = read(input);
     put_met(meeting::newton::meet(c.a, c.b, c.x, c.tol), output)
 }
 
 // A meeting in the plane through the point from 48 on with the normal from 51 on.
-fn probe_meet_in_plane(c: Call, input: &[f64], output: &mut [f64]) -> u64
-    requires { (54 ≤ length input.now) × (4 ≤ length output.old) }
-    ensures { probed result output.new ≡ probe_meet_in_plane c input.now output.old }
+fn probe_meet_in_plane(input: &[f64; 54], output: &mut [f64; 4]) -> u64
+    ensures { probed result output.new ≡ probe_meet_in_plane (call_from input.now) input.now output.old }
 {
-    let origin = point(input, 48);
-    let normal = vector(input, 51);
+    let c = read(input);
+    let origin = Point3D::from(numbers::<3>(input, 48));
+    let normal = Vector3D::from(numbers::<3>(input, 51));
     put_met(
         meeting::newton::meet_in_plane(c.a, c.b, c.x, origin, normal, c.tol),
         output,
@@ -91,10 +94,10 @@ fn probe_meet_in_plane(c: Call, input: &[f64], output: &mut [f64]) -> u64
 }
 
 // A meeting with the parameter `pin` at the number 48.
-fn probe_land(c: Call, input: &[f64], pin: u64, output: &mut [f64]) -> u64
-    requires { (54 ≤ length input.now) × (4 ≤ length output.old) }
-    ensures { probed result output.new ≡ probe_land c input.now pin output.old }
+fn probe_land(pin: u64, input: &[f64; 54], output: &mut [f64; 4]) -> u64
+    ensures { probed result output.new ≡ probe_land (call_from input.now) input.now pin output.old }
 {
+    let c = read(input);
     put_met(
         meeting::newton::land(c.a, c.b, c.x, pin as usize, input[48], c.tol),
         output,
@@ -105,30 +108,20 @@ fn probe_land(c: Call, input: &[f64], pin: u64, output: &mut [f64]) -> u64
 pub fn probe_step(what: u64, pin: u64, input: &[f64], output: &mut [f64]) -> u64
     ensures { probed result output.new ≡ probe_step what pin input.now output.old }
 {
-    if input.len() < 54 {
+    let Some(input) = input.first_chunk::<54>() else {
         return 9;
-    }
-    if output.len() < 4 {
+    };
+    let Some(output) = output.first_chunk_mut::<4>() else {
         return 9;
+    };
+    // Kept (7): the number comes from C, and the functions' names say what each stands for; an enum would say it twice more.
+    match what {
+        0 => probe_tangent(input, output),
+        1 => probe_predict(input, output),
+        2 => probe_leaving(input, output),
+        3 => probe_meet(input, output),
+        4 => probe_meet_in_plane(input, output),
+        5 => probe_land(pin, input, output),
+        _ => 9,
     }
-    let c = read(input);
-    if what == 0 {
-        return probe_tangent(c, output);
-    }
-    if what == 1 {
-        return probe_predict(c, input, output);
-    }
-    if what == 2 {
-        return probe_leaving(c, input, output);
-    }
-    if what == 3 {
-        return probe_meet(c, output);
-    }
-    if what == 4 {
-        return probe_meet_in_plane(c, input, output);
-    }
-    if what == 5 {
-        return probe_land(c, input, pin, output);
-    }
-    9
 }

@@ -1,34 +1,12 @@
 //! Points and derivatives of surfaces for comparisons with outside programs.
 //!
 //! The numbers: origin, x, y and z direction, two sizes (used ones first). Kinds are the job file's.
-ghost use Rattle.std.specs.Prelude.{◌≡◌, ◌≤◌, length};
+ghost use Rattle.std.specs.Prelude.{◌≡◌};
 ghost use Rattle.probe.specs.Probe.{probed};
-ghost use Rattle.probe.specs.Surface.{asked_surface, probe_point, probe_derivatives, probe_surface};
+ghost use Rattle.probe.specs.Surface.{probe_point, probe_derivatives, probe_surface};
 
 use crate::call::{frame, put};
-use analytic::Surface;
-
-fn surface(kind: u64, numbers: &[f64]) -> Surface
-    requires { 14 ≤ length numbers.now }
-    ensures { result ≡ asked_surface kind numbers.now }
-{
-    let f = frame(numbers, 0);
-    let a = numbers[12];
-    let b = numbers[13];
-    if kind == 0 {
-        return Surface::Plane(f);
-    }
-    if kind == 1 {
-        return Surface::Cylinder(f, a);
-    }
-    if kind == 2 {
-        return Surface::Cone(f, a, b);
-    }
-    if kind == 3 {
-        return Surface::Sphere(f, a);
-    }
-    Surface::Torus(f, a, b)
-}
+use analytic::{Kind, Surface};
 
 // 1 and the point's coordinates, or 0 for an output too short.
 fn probe_point(s: Surface, u: f64, v: f64, output: &mut [f64]) -> u64
@@ -69,18 +47,16 @@ pub fn probe_surface(
 ) -> u64
     ensures { probed result output.new ≡ probe_surface what kind numbers.now u v output.old }
 {
-    if 4 < kind {
+    let Ok(kind) = Kind::try_from(kind) else {
         return 0;
-    }
+    };
     if numbers.len() < 14 {
         return 0;
     }
-    let s = surface(kind, numbers);
-    if what == 0 {
-        return probe_point(s, u, v, output);
+    let s = kind.surface(frame(numbers, 0), numbers[12], numbers[13]);
+    match what {
+        0 => probe_point(s, u, v, output),
+        1 => probe_derivatives(s, u, v, output),
+        _ => 0,
     }
-    if what == 1 {
-        return probe_derivatives(s, u, v, output);
-    }
-    0
 }

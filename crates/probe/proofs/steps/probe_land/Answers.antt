@@ -4,8 +4,8 @@ use Rattle.probe.specs.Steps.{probe_land}
 use Rattle.probe.proofs.steps.probe_land.Goals as goal
 
 pub put_met-requires : goal.put_met-requires
-put_met-requires c = (c.requires.1, λ q e. unmet_more q (omega arith) (c.land.ensures.unmet q e))
+put_met-requires c = λ q e. unmet_more q (omega arith) (c.land.ensures.unmet q e)
 
 pub returns : goal.returns
 unfolding probe_land
-returns c = rw (← c.land.ensures.answer) c.put_met.ensures
+returns c = rw (← c.read-c.ensures, ← c.land.ensures.answer) c.put_met.ensures

@@ -12,11 +12,11 @@ number_fits c = rw c.numbers-n.ensures (number_small c.in-Refused.refusal)
 
 round_fits : (c : After-numbers-n) → c.numbers-n.result.round ≤ most_rounds
 round_fits c =
-    rw c.numbers-n.ensures (unmet_round _ (c.requires.1 _ c.in-Refused.is))
+    rw c.numbers-n.ensures (unmet_round _ (c.requires _ c.in-Refused.is))
 
 column_fits : (c : After-numbers-n) → c.numbers-n.result.column ≤ 4
 column_fits c =
-    rw c.numbers-n.ensures (unmet_column _ (c.requires.1 _ c.in-Refused.is))
+    rw c.numbers-n.ensures (unmet_column _ (c.requires _ c.in-Refused.is))
 
 pub overflow_mul-result : goal.overflow_mul-result
 overflow_mul-result c = omega (arith, number_fits (goal.at.overflow_mul-result c).After-numbers-n)
