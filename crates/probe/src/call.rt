@@ -33,6 +33,7 @@ pub fn frame(input: &[f64], at: usize) -> Frame3D
     Frame3D { origin, x, y, z }
 }
 
+// The kind that a number stands for: each stands for one.
 fn kind(number: f64) -> Kind
     ensures { (f : Frame3D) (a b : Float) → surface_as result f a b ≡ surface_from number f a b }
 {

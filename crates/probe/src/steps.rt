@@ -94,6 +94,7 @@ fn probe_meet_in_plane(input: &[f64; 54], output: &mut [f64; 4]) -> u64
 }
 
 // A meeting with the parameter `pin` at the number 48.
+// Kept (1): the pin comes from C, and `land` takes any number.
 fn probe_land(pin: u64, input: &[f64; 54], output: &mut [f64; 4]) -> u64
     ensures { probed result output.new ≡ probe_land (call_from input.now) input.now pin output.old }
 {
@@ -105,6 +106,7 @@ fn probe_land(pin: u64, input: &[f64; 54], output: &mut [f64; 4]) -> u64
 }
 
 // The step of this number; `pin` is for `land` alone. Any other number is answered like a slice too short.
+// Kept (1): the numbers come from C as they are.
 pub fn probe_step(what: u64, pin: u64, input: &[f64], output: &mut [f64]) -> u64
     ensures { probed result output.new ≡ probe_step what pin input.now output.old }
 {
@@ -114,7 +116,7 @@ pub fn probe_step(what: u64, pin: u64, input: &[f64], output: &mut [f64]) -> u64
     let Some(output) = output.first_chunk_mut::<4>() else {
         return 9;
     };
-    // Kept (7): the number comes from C, and the functions' names say what each stands for; an enum would say it twice more.
+    // Kept (7): the functions' names say what each number stands for; an enum with its `TryFrom` would say it twice more.
     match what {
         0 => probe_tangent(input, output),
         1 => probe_predict(input, output),

@@ -37,6 +37,7 @@ fn probe_derivatives(s: Surface, u: f64, v: f64, output: &mut [f64]) -> u64
 
 // What is asked: 0 the point, 1 both first derivatives. Anything else, a kind above 4 and a slice too short are answered 0, and the output
 // is as it was.
+// Kept (1): the numbers come from C as they are.
 pub fn probe_surface(
     what: u64,
     kind: u64,

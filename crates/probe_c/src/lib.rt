@@ -17,6 +17,7 @@ pub extern "C" fn probe_solve(size: u64, input: &[f64], output: &mut [f64]) -> u
 }
 
 // The step of this number; `pin` is for `land` alone. Any other number is answered like a slice too short.
+// Kept (1): the numbers come from C as they are.
 #[unsafe(no_mangle)]
 pub extern "C" fn probe_step(what: u64, pin: u64, input: &[f64], output: &mut [f64]) -> u64
     ensures { probed result output.new ≡ probe_step what pin input.now output.old }
@@ -26,6 +27,7 @@ pub extern "C" fn probe_step(what: u64, pin: u64, input: &[f64], output: &mut [f
 
 // What is asked: 0 the point, 1 both first derivatives. Anything else, a kind above 4 and a slice too short are answered 0, and the output
 // is as it was.
+// Kept (1): the numbers come from C as they are.
 #[unsafe(no_mangle)]
 pub extern "C" fn probe_surface(
     what: u64,

@@ -4,6 +4,7 @@
 ghost use Rattle.std.specs.Prelude.{◌≤◌};
 
 use crate::compared::Compared;
+use analytic::Kind;
 use recorded::words::{RECORD, differ, load, word};
 
 pub struct Surfaces;
@@ -11,14 +12,13 @@ pub struct Surfaces;
 // Kept (1): what is asked is a word of the record, and the other two go to the probe as they stand.
 const PUBLIC_POINT: u64 = 2;
 
-// Where the sizes begin, among a surface's 146 bytes, that a kind has not.
-// Kept (1): the kind is a word of the record, which goes on as a number, to the probe and into the surface's bytes.
-fn unused(kind: u64) -> usize
+// Where the sizes begin, among a surface's 146 bytes, that the kind of this number has not.
+fn unused(number: u64) -> usize
     ensures { (98 ≤ result) × (result ≤ 114) }
 {
-    match kind {
-        0 => 98,
-        1 | 3 => 106,
+    match Kind::try_from(number) {
+        Ok(Kind::Plane) => 98,
+        Ok(Kind::Cylinder | Kind::Sphere) => 106,
         _ => WINDOWS,
     }
 }

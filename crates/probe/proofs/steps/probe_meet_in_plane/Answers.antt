@@ -4,9 +4,6 @@ use Rattle.probe.specs.Steps.{probe_meet_in_plane}
 use Rattle.probe.proofs.Read.{point_of_three, vector_of_three}
 use Rattle.probe.proofs.steps.probe_meet_in_plane.Goals as goal
 
-pub put_met-requires : goal.put_met-requires
-put_met-requires c = c.meet_in_plane.ensures.unmet
-
 pub returns : goal.returns
 unfolding probe_meet_in_plane
 returns c =
