@@ -32,19 +32,18 @@ begun a b tol dir x n w h = half_from a b tol dir x n 0 (record { w = w; h = h; 
 
 -- the invariant: `l` holds the points so far, in the order walked
 pub record Going (a b : Patch) (tol : Tolerance) (dir : Float) (x : Parameters) (p : Point3D) (n : ℕ) (w₀ : Walker) (h₀ : Float) (out₀ l : List Float)
-    (w : Walker) (h : Float) (count i : ℕ) : Type 0 where
+    (w : Walker) (h : Float) (count : ℕ) : Type 0 where
   pub own : p ≡ point_a a x
   pub enough : width * n ≤ length out₀
   pub points : List Parameters
-  pub same : half_from a b tol dir x n i (record { w = w; h = h; points = points }) ≡ begun a b tol dir x n w₀ h₀
+  pub same : half_from a b tol dir x n count (record { w = w; h = h; points = points }) ≡ begun a b tol dir x n w₀ h₀
   pub size : count ≡ length points
-  pub few : count ≤ i
-  pub within : i ≤ n
+  pub within : count ≤ n
   pub written : take (width * count) l ≡ rows_of (own_row a) (reverse points)
   pub room : length l ≡ length out₀
 
 pub going_start : {a b : Patch} {tol : Tolerance} {dir : Float} {x : Parameters} {p : Point3D} {n : ℕ} {w : Walker} {h : Float} {l : List Float}
-    → p ≡ point_a a x → width * n ≤ length l → Going a b tol dir x p n w h l l w h 0 0
+    → p ≡ point_a a x → width * n ≤ length l → Going a b tol dir x p n w h l l w h 0
 unfolding rows_of
 going_start own enough = record {
   own = own;
@@ -52,14 +51,13 @@ going_start own enough = record {
   points = [];
   same = refl;
   size = refl;
-  few = omega arith;
   within = omega arith;
   written = refl;
   room = refl;
 }
 
 module _ {a b : Patch} {tol : Tolerance} {dir : Float} {x : Parameters} {p : Point3D} {n : ℕ} {w₀ : Walker} {h₀ : Float} {out₀ l : List Float} {w : Walker} {h : Float}
-    {count i : ℕ} (g : Going a b tol dir x p n w₀ h₀ out₀ l w h count i) where
+    {count : ℕ} (g : Going a b tol dir x p n w₀ h₀ out₀ l w h count) where
   -- it is the half of the definition
   pub begun_is : (t : Vector3D) → w₀ ≡ first_walker x p t dir → h₀ ≡ first_stride tol.confusion → begun a b tol dir x n w₀ h₀ ≡ half_of a b tol dir x t n
   unfolding half_of
@@ -70,13 +68,10 @@ module _ {a b : Patch} {tol : Tolerance} {dir : Float} {x : Parameters} {p : Poi
 
   -- ---- before a step
 
-  module _ (again : i < n) where
-    pub few_held : count < n
-    few_held = let f = g.few in omega (arith, f, again)
-
+  module _ (again : count < n) where
     pub few_left : (removed : Bool) {k : ℕ} → k ≡ pick removed (count - 1) count → k < n
-    few_left true ek = let f = few_held in omega (arith, f, ek)
-    few_left false ek = let f = few_held in omega (arith, f, ek)
+    few_left true ek = omega (arith, again, ek)
+    few_left false ek = omega (arith, again, ek)
 
     pub fits : {k : ℕ} → k < n → width * k + width ≤ length l
     fits f = let r = g.room in let k = g.enough in omega (arith, f, r, k)
@@ -87,23 +82,22 @@ module _ {a b : Patch} {tol : Tolerance} {dir : Float} {x : Parameters} {p : Poi
       fine : (s : Stepped) → stepped ≡ s → SteppedFine a b tol count w.p s
       fine s e = subst (SteppedFine a b tol count w.p) (sym es ∙ e) (step_fine a b tol dir p count w h)
 
-      says : (s : Stepped) → stepped ≡ s → half_body a b tol dir x i state ≡ after_step x g.points s
+      says : (s : Stepped) → stepped ≡ s → half_body a b tol dir x count state ≡ after_step x g.points s
       says s e =
           ap (after_step x g.points)
           (ap (λ (k : ℕ). step_of a b tol dir (point_a a x) k w h) (sym g.size) ∙ ap (λ (q : Point3D). step_of a b tol dir q count w h) (sym g.own) ∙ sym es ∙ e)
 
       pub going_on : {next : Walker} {k : Float} {r : Row} {m : List Float} → stepped ≡ Onward next k → r ≡ row_for next.p next.x → m ≡ placed l (width * count) r
-          → Going a b tol dir x p n w₀ h₀ out₀ m next k (count + 1) (i + 1)
+          → Going a b tol dir x p n w₀ h₀ out₀ m next k (count + 1)
       going_on {next} {k} {r} e er em = record {
         own = g.own;
         enough = g.enough;
         points = next.x ∷ g.points;
-        same = searched_again (half_body a b tol dir x) half_spent i n {s = state} again (says (Onward next k) e) g.same;
+        same = searched_again (half_body a b tol dir x) half_spent count n {s = state} again (says (Onward next k) e) g.same;
         size = let s = g.size in omega (arith, s);
-        few = let f = g.few in omega (arith, f);
         within = omega (arith, again);
-        written = pushed (own_row a) next.x count g.points l g.written (fits few_held) (er ∙ ap (λ (q : Point3D). row_for q next.x) (fine (Onward next k) e).own) em;
-        room = length_put l (width * count) r (fits few_held) em ∙ g.room;
+        written = pushed (own_row a) next.x count g.points l g.written (fits again) (er ∙ ap (λ (q : Point3D). row_for q next.x) (fine (Onward next k) e).own) em;
+        room = length_put l (width * count) r (fits again) em ∙ g.room;
       }
 
       pub held : {removed : Bool} → stepped ≡ Closed removed → 3 ≤ count
@@ -123,10 +117,10 @@ module _ {a b : Patch} {tol : Tolerance} {dir : Float} {x : Parameters} {p : Poi
             → Written (own_row a) n v m k closed → Written (own_row a) n u m k closed
         left v {s} e o {m} {k} {closed} d =
             subst (λ (v : Half). Written (own_row a) n v m k closed)
-            (searched_leave (half_body a b tol dir x) half_spent i n {s = state} again (says s e ∙ o) g.same ∙ eu) d
+            (searched_leave (half_body a b tol dir x) half_spent count n {s = state} again (says s e ∙ o) g.same ∙ eu) d
 
         pub going_ended : stepped ≡ Ended → Written (own_row a) n u l count false
-        going_ended e = left (half_spent state) e refl (record { size = g.size; ends = refl; few = let f = few_held in omega (arith, f); rows = g.written })
+        going_ended e = left (half_spent state) e refl (record { size = g.size; ends = refl; few = omega (arith, again); rows = g.written })
 
         pub going_edge : {y : Parameters} {q : Point3D} {r : Row} {m : List Float} → stepped ≡ Edge y q → r ≡ row_for q y → m ≡ placed l (width * count) r
             → Written (own_row a) n u m (count + 1) false
@@ -134,8 +128,8 @@ module _ {a b : Patch} {tol : Tolerance} {dir : Float} {x : Parameters} {p : Poi
             left (record { points = y ∷ g.points; closed = false }) e refl (record {
               size = let z = g.size in omega (arith, z);
               ends = refl;
-              few = let f = few_held in omega (arith, f);
-              rows = pushed (own_row a) y count g.points l g.written (fits few_held) (er ∙ ap (λ (q : Point3D). row_for q y) (fine (Edge y q) e).own) em;
+              few = omega (arith, again);
+              rows = pushed (own_row a) y count g.points l g.written (fits again) (er ∙ ap (λ (q : Point3D). row_for q y) (fine (Edge y q) e).own) em;
             })
 
         pub going_closed : {removed : Bool} {k : ℕ} {r : Row} {m : List Float} → stepped ≡ Closed removed → k ≡ pick removed (count - 1) count → r ≡ row_for p x
@@ -154,8 +148,9 @@ module _ {a b : Patch} {tol : Tolerance} {dir : Float} {x : Parameters} {p : Poi
             })
 
   -- the steps are spent
-  pub going_spent : n ≤ i → {u : Half} → begun a b tol dir x n w₀ h₀ ≡ u → Written (own_row a) n u l count false
+  pub going_spent : n ≤ count → {u : Half} → begun a b tol dir x n w₀ h₀ ≡ u → Written (own_row a) n u l n false
   going_spent e eu =
-      subst (λ (v : Half). Written (own_row a) n v l count false)
-      (searched_done (half_body a b tol dir x) half_spent i n {s = state} e g.same ∙ eu)
-      (record { size = g.size; ends = refl; few = let f = g.few in let k = g.within in omega (arith, f, k); rows = g.written })
+      let z : count ≡ n = let k = g.within in omega (arith, k, e) in
+      subst (λ (v : Half). Written (own_row a) n v l n false)
+      (searched_done (half_body a b tol dir x) half_spent count n {s = state} e g.same ∙ eu)
+      (record { size = sym z ∙ g.size; ends = refl; few = omega arith; rows = ap (λ (k : ℕ). take (width * k) l) (sym z) ∙ g.written })

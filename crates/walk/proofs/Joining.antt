@@ -1,7 +1,7 @@
 -- Both halves in one list, the backward one reversed: the whole reversed, then the start and the forward half again.
 use mathlib.Core.Path.{◌≡◌, ap, sym, ◌∙◌}
 use mathlib.Core.List.{List, ◌++◌, append_assoc}
-use Prim.Native.Nat.{ℕ, ◌+◌, ◌*◌, ◌-◌, ◌≤◌}
+use Prim.Native.Nat.{ℕ, ◌+◌, ◌*◌, ◌-◌, ◌/◌, ◌≤◌}
 use native.Mathlib.Omega.{arith}
 use lib.Ieee.{Float}
 use lib.ListN.{length, take, drop, length-append, length-drop}
@@ -71,22 +71,36 @@ module _ (f b : ℕ) (l : List Float) (h : width * (1 + f + b) ≤ length l) whe
   middle_is : take (width * (1 + f + b) - width * b) (drop (width * b) l₁) ≡ TS
   middle_is = ap (λ (k : ℕ). take k (drop (width * b) l₁)) span ∙ ap (take (width * (1 + f))) behind_is ∙ take_at TS R (width * (1 + f)) l_t_s
 
-  -- and then the start and the forward half again
-  pub joined : {p q : List Float} → p ≡ reversed_of (1 + f + b) (take (width * (1 + f + b)) l)
-      → q ≡ reversed_of (1 + f) (take (width * (1 + f + b) - width * b) (drop (width * b) (p ++ drop (width * (1 + f + b)) l)))
-      → back_at (width * b) (width * (1 + f + b)) (p ++ drop (width * (1 + f + b)) l) q ≡ joined_of f b l
-  unfolding l₁ joined_of S B R TB TS
-  joined {p} {q} ep eq =
-      ap (λ (z : List Float). back_at (width * b) (width * (1 + f + b)) (z ++ drop (width * (1 + f + b)) l) q) ep
-      ∙ ap (back_at (width * b) (width * (1 + f + b)) l₁)
-      (eq ∙ ap (λ (z : List Float). reversed_of (1 + f) (take (width * (1 + f + b) - width * b) (drop (width * b) (z ++ drop (width * (1 + f + b)) l)))) ep
-      ∙ ap (reversed_of (1 + f)) middle_is ∙ reversed_twice (1 + f) S l_s)
-      ∙ ap (λ (z : List Float). z ++ (S ++ drop (width * (1 + f + b) - width * b) (drop (width * b) l₁))) (ap (take (width * b)) l₁_is ∙ take_at TB (TS ++ R) (width * b) l_t_b)
-      ∙ ap (λ (z : List Float). TB ++ (S ++ z)) (ap (λ (k : ℕ). drop k (drop (width * b) l₁)) span ∙ ap (drop (width * (1 + f))) behind_is ∙ drop_at TS R (width * (1 + f)) l_t_s)
+  -- what lies behind the backward half
+  abbrev middle : List Float → List Float
+  middle p = take (width * (1 + f + b) - width * b) (drop (width * b) (p ++ drop (width * (1 + f + b)) l))
 
-  -- its lengths, for the calls
+  -- the lengths, for the calls
   pub joined_first : length (take (width * (1 + f + b)) l) ≡ width * (1 + f + b)
   joined_first = length-take-le (width * (1 + f + b)) l h
+
+  module _ {p : List Float} (ep : p ≡ reversed_of (length (take (width * (1 + f + b)) l) / width) (take (width * (1 + f + b)) l)) where
+    whole_is : p ≡ reversed_of (1 + f + b) (take (width * (1 + f + b)) l)
+    whole_is = ep ∙ ap (λ (k : ℕ). reversed_of k (take (width * (1 + f + b)) l)) (let e = joined_first in let g : length (take (width * (1 + f + b)) l) / width ≡ 1 + f + b = omega arith in g)
+
+    second_is : middle p ≡ TS
+    unfolding l₁
+    second_is = ap middle whole_is ∙ middle_is
+
+    pub joined_second : length (middle p) ≡ width * (1 + f)
+    joined_second = ap length second_is ∙ l_t_s
+
+    -- and then the start and the forward half again
+    pub joined : {q : List Float} → q ≡ reversed_of (length (middle p) / width) (middle p)
+        → back_at (width * b) (width * (1 + f + b)) (p ++ drop (width * (1 + f + b)) l) q ≡ joined_of f b l
+    unfolding l₁ joined_of S B R TB TS
+    joined {q} eq =
+        ap (λ (z : List Float). back_at (width * b) (width * (1 + f + b)) (z ++ drop (width * (1 + f + b)) l) q) whole_is
+        ∙ ap (back_at (width * b) (width * (1 + f + b)) l₁)
+        (eq ∙ ap (λ (k : ℕ). reversed_of k (middle p)) (let e = joined_second in let g : length (middle p) / width ≡ 1 + f = omega arith in g)
+        ∙ ap (reversed_of (1 + f)) second_is ∙ reversed_twice (1 + f) S l_s)
+        ∙ ap (λ (z : List Float). z ++ (S ++ drop (width * (1 + f + b) - width * b) (drop (width * b) l₁))) (ap (take (width * b)) l₁_is ∙ take_at TB (TS ++ R) (width * b) l_t_b)
+        ∙ ap (λ (z : List Float). TB ++ (S ++ z)) (ap (λ (k : ℕ). drop k (drop (width * b) l₁)) span ∙ ap (drop (width * (1 + f))) behind_is ∙ drop_at TS R (width * (1 + f)) l_t_s)
 
   -- what it begins with
   pub joined_front : {xs ys : List Float} → take (width * b) (drop (width * (1 + f)) l) ≡ ys → take (width * (1 + f)) l ≡ xs

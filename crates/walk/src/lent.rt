@@ -1,43 +1,19 @@
-// The lent buffer: a point's numbers put down, points reversed in place, zeros.
-ghost use Rattle.std.specs.Prelude.{◌≡◌, ◌++◌, ◌+◌, ◌*◌, ◌-◌, ◌≤◌, length, take, replicate};
-ghost use Rattle.loops.specs.Over.{over};
-ghost use Rattle.groups.specs.Groups.{width, most_points};
-ghost use Rattle.number.specs.Helpers.{positive_zero};
-ghost use Rattle.walk.specs.Lent.{coordinate_numbers, parameter_numbers, placed, reversed_of, row_for};
+// The lent buffer: a point's numbers put down, points reversed in place.
+ghost use Rattle.std.specs.Prelude.{◌≡◌, ◌+◌, ◌*◌, ◌/◌, ◌≤◌, length};
+ghost use Rattle.groups.specs.Groups.{width};
+ghost use Rattle.walk.specs.Lent.{placed, reversed_of, row_for};
 
 use geometry::Point3D;
-use groups::Row;
 use groups::row::row_of;
+use groups::{Row, WIDTH};
 use patch::Parameters;
-
-// A point's coordinates, from index `at` on.
-fn put_coordinates(out: &mut [f64], at: usize, row: Row)
-    requires { at + 3 ≤ length out.old }
-    ensures { out.new ≡ over out.old at (coordinate_numbers row) }
-{
-    out[at] = row.x;
-    out[at + 1] = row.y;
-    out[at + 2] = row.z;
-}
-
-// Its parameters, from index `at` on.
-fn put_parameters(out: &mut [f64], at: usize, row: Row)
-    requires { at + 4 ≤ length out.old }
-    ensures { out.new ≡ over out.old at (parameter_numbers row) }
-{
-    out[at] = row.u1;
-    out[at + 1] = row.v1;
-    out[at + 2] = row.u2;
-    out[at + 3] = row.v2;
-}
 
 // A point's numbers, from index `at` on.
 pub(crate) fn put(out: &mut [f64], at: usize, row: Row)
     requires { at + width ≤ length out.old }
     ensures { out.new ≡ placed out.old at row }
 {
-    put_coordinates(&mut *out, at, row);
-    put_parameters(&mut *out, at + 3, row);
+    out[at..at + WIDTH].copy_from_slice(&row.numbers());
 }
 
 // The numbers of a point of surface A and its parameters.
@@ -55,26 +31,18 @@ pub(crate) fn row_for(q: Point3D, x: Parameters) -> Row
     }
 }
 
-// The k points of the slice, last first, in place.
-pub(crate) fn reverse(points: &mut [f64], k: usize)
-    requires { (length points.old ≡ width * k) × (k ≤ most_points) }
-    ensures { points.new ≡ reversed_of k points.old }
+// The points of the slice, last first, in place.
+// Kept (3): std says nothing of what a slice holds once the rows of its `as_chunks_mut` or `chunks_exact_mut` were exchanged.
+pub(crate) fn reverse(points: &mut [f64])
+    requires { width * (length points.old / width) ≡ length points.old }
+    ensures { points.new ≡ reversed_of (length points.old / width) points.old }
 {
+    let k = points.len() / WIDTH;
     for i in 0..k / 2 {
         let j = k - 1 - i;
         let low = row_of(&*points, i);
         let high = row_of(&*points, j);
-        put(&mut *points, groups::WIDTH * i, high);
-        put(&mut *points, groups::WIDTH * j, low);
-    }
-}
-
-// Zeros from index `from` on.
-pub(crate) fn clear(points: &mut [f64], from: usize)
-    requires { from ≤ length points.old }
-    ensures { points.new ≡ take from points.old ++ replicate (length points.old - from) positive_zero }
-{
-    for i in from..points.len() {
-        points[i] = 0.0;
+        put(&mut *points, WIDTH * i, high);
+        put(&mut *points, WIDTH * j, low);
     }
 }

@@ -1,9 +1,9 @@
 // The call: refusals, the seed, its tangent, the line.
-ghost use Rattle.std.specs.Prelude.{◌≡◌, ◌≤◌, length};
+ghost use Rattle.std.specs.Prelude.{◌≡◌, length};
 ghost use Rattle.groups.specs.Traced.{outcome};
-ghost use Rattle.walk.specs.Trace.{guess_finite, most_steps, cap_fits, call_fitness, room, unwalked_of, walk_of, trace_of};
+ghost use Rattle.walk.specs.Trace.{guess_finite, cap_fits, call_fitness, room, unwalked_of, walk_of, trace_of};
 
-use crate::lent::clear;
+use crate::half::Start;
 use crate::line::line;
 use geometry::Tolerance;
 use groups::{Traced, WIDTH};
@@ -61,6 +61,7 @@ fn unwalked(met: Met) -> Result<Traced, Refusal>
 }
 
 // The walk from a guess: 9 or 21 where it leads to no meeting, 10 where the meeting has no direction; zeros are left with each.
+// Kept (6): n is the step cap, and the slice's room follows from it.
 fn walk_from(
     points: &mut [f64],
     a: Patch,
@@ -69,20 +70,29 @@ fn walk_from(
     guess: Parameters,
     n: usize,
 ) -> Result<Traced, Refusal>
-    requires { (n ≤ most_steps) × (length points.old ≡ room n) }
+    requires { length points.old ≡ room n }
     ensures { outcome result points.new ≡ walk_of a b tol guess n }
 {
     let met = meet(a, b, guess, tol);
     let Met::At(seed) = met else {
-        clear(&mut *points, 0);
+        points.fill(0.0);
         return unwalked(met);
     };
     let Some(t) = tangent(a, b, seed, tol) else {
-        clear(&mut *points, 0);
+        points.fill(0.0);
         return Err(Refusal::NoDirection);
     };
     let p = a.surface.eval_point(seed.u1, seed.v1);
-    line(&mut *points, a, b, tol, seed, p, t, n)
+    let start = Start {
+        a,
+        b,
+        tol,
+        x: seed,
+        p,
+        t,
+        n,
+    };
+    line(&mut *points, &start)
 }
 
 // The line where A and B meet, through the meeting that the guess leads to, in the lent buffer: seven numbers a point, then zeros, in its

@@ -1,10 +1,12 @@
-use mathlib.Core.Path.{refl}
+use mathlib.Core.Path.{◌≡◌}
+use mathlib.Core.List.{append_assoc}
+use Prim.Native.Nat.{◌+◌, ◌-◌}
 use native.Mathlib.Omega.{arith}
-use Rattle.loops.proofs.Over.{over_next}
-use Rattle.walk.specs.Lent.{coordinate_numbers, parameter_numbers}
+use lib.Seq.{drop-drop}
+use Rattle.groups.specs.Groups.{width}
 use Rattle.walk.proofs.lent.put.Goals as goal
 
 pub returns : goal.returns
 returns c =
-    let g = c.args in
-    over_next g.out.now g.at 3 (coordinate_numbers g.row) (parameter_numbers g.row) refl (omega (arith, c.requires)) c.put_coordinates.ensures c.put_parameters.ensures
+    let gap : c.args.at + width - c.args.at ≡ width = omega arith in
+    rw (c.copy_from_slice.ensures.after, c.numbers.ensures, gap, drop-drop, append_assoc)

@@ -1,5 +1,5 @@
 -- i points at each end are exchanged, those between are as they were
-use mathlib.Core.Path.{◌≡◌, refl, ◌∙◌}
+use mathlib.Core.Path.{◌≡◌, refl, sym, ◌∙◌}
 use Prim.Native.Nat.{◌-◌, ◌<◌, ◌*◌, ◌/◌}
 use native.Mathlib.Omega.{arith}
 use lib.ListN.{length}
@@ -13,11 +13,12 @@ loop-i-init c = (reversing_start _ _, (omega arith, refl))
 
 pub loop-i-preserved : goal.loop-i-preserved
 loop-i-preserved c =
-    let k = c.args.k in
+    let b = c.args.points.now in
+    let k = length b / width in
     let p = c.loop-i in
-    let l : length p.points ≡ width * k = p.invariant.0.size ∙ c.requires.0 in
+    let l : length p.points ≡ width * k = p.invariant.0.size ∙ sym c.requires in
     let h : p.i < k / 2 = omega (arith, c.loop-i-test.true) in (
-      reversing_again k p.i c.args.points.now p.points c.requires.0 h p.invariant.0
+      reversing_again k p.i b p.points (sym c.requires) h p.invariant.0
           (c.row_of-low.ensures ∙ row_there p.points p.i (omega (arith, l, h)))
           (c.row_of-high.ensures ∙ row_there p.points (k - 1 - p.i) (omega (arith, l, h)))
           c.put.ensures c.put-in-loop-i.ensures,
@@ -28,4 +29,4 @@ pub shape_of-points : goal.shape_of-points
 shape_of-points c = c.loop-i.invariant.0.size
 
 pub returns : goal.returns
-returns c = reversing_done c.args.k c.loop-i.i c.args.points.now c.loop-i.points c.requires.0 (omega (arith, c.loop-i-test.false)) c.loop-i.invariant.1.0 c.loop-i.invariant.0
+returns c = reversing_done _ c.loop-i.i c.args.points.now c.loop-i.points (sym c.requires) (omega (arith, c.loop-i-test.false)) c.loop-i.invariant.1.0 c.loop-i.invariant.0

@@ -20,69 +20,65 @@ use Rattle.walk.proofs.line.line.Goals.{After-half-backward, After-half-forward,
 
 -- ---- what the calls leave
 module _ (c : After-put) where
-  start_put : Started (own_row c.args.a) c.args.x c.args.n c.put.new.out
-  start_put = started c.args.points.now c.requires.1.1 c.put.ensures (c.row_for.ensures ∙ ap (λ (q : Point3D). row_for q c.args.x) c.requires.0)
+  start_put : Started (own_row c.args.start.now.a) c.args.start.now.x c.args.start.now.n c.put.new.out
+  start_put = started c.args.points.now c.requires c.put.ensures (c.row_for.ensures ∙ ap (λ (q : Point3D). row_for q c.args.start.now.x) c.args.start.now.own)
 
 module _ (c : After-half-forward) where
   abbrev forward_half_of : Half
-  forward_half_of = half_of c.args.a c.args.b c.args.tol forward c.args.x c.args.t c.args.n
+  forward_half_of = half_of c.args.start.now.a c.args.start.now.b c.args.start.now.tol forward c.args.start.now.x c.args.start.now.t c.args.start.now.n
 
   abbrev after_forward : List Float
   after_forward = back_from width c.put.new.out c.half-forward.new.out
 
-  forward_put : Started (own_row c.args.a) c.args.x c.args.n c.put.new.out
-      → Forward (own_row c.args.a) c.args.x c.args.n forward_half_of after_forward c.half-forward.result.count
+  forward_put : Started (own_row c.args.start.now.a) c.args.start.now.x c.args.start.now.n c.put.new.out
+      → Forward (own_row c.args.start.now.a) c.args.start.now.x c.args.start.now.n forward_half_of after_forward c.half-forward.result.count
   forward_put s = forward_half s c.half-forward.auto.out c.half-forward.ensures
 
 module _ (c : After-half-backward) where
   abbrev first_half : Half
-  first_half = half_of c.args.a c.args.b c.args.tol forward c.args.x c.args.t c.args.n
+  first_half = half_of c.args.start.now.a c.args.start.now.b c.args.start.now.tol forward c.args.start.now.x c.args.start.now.t c.args.start.now.n
 
   abbrev first_put : List Float
   first_put = back_from width c.put.new.out c.half-forward.new.out
 
-  both_put : Forward (own_row c.args.a) c.args.x c.args.n first_half first_put c.half-forward.result.count
-      → Both (own_row c.args.a) c.args.x c.args.n first_half (half_of c.args.a c.args.b c.args.tol backward c.args.x c.args.t c.args.n)
+  both_put : Forward (own_row c.args.start.now.a) c.args.start.now.x c.args.start.now.n first_half first_put c.half-forward.result.count
+      → Both (own_row c.args.start.now.a) c.args.start.now.x c.args.start.now.n first_half (half_of c.args.start.now.a c.args.start.now.b c.args.start.now.tol backward c.args.start.now.x c.args.start.now.t c.args.start.now.n)
       (back_from (width * (1 + c.half-forward.result.count)) first_put c.half-backward.new.out) c.half-forward.result.count c.half-backward.result.count
   both_put f = backward_half f c.half-backward.auto.out c.half-backward.ensures
 
 pub half-forward-requires : goal.half-forward-requires
 half-forward-requires c =
-    (c.requires.0, (c.requires.1.0, needs_forward (start_put (goal.at.half-forward-requires c).After-put)))
+    needs_forward (start_put (goal.at.half-forward-requires c).After-put)
 
 pub returns-then-forward : goal.returns-then-forward
 returns-then-forward c = c.finish.ensures ∙ settled_forward (forward_put (goal.at.returns-then-forward c).After-half-forward (start_put (goal.at.returns-then-forward c).After-put)) ∙ ap (settled _ _) (closed_forward_lem _ _ _ _ _ _ (sym c.half-forward.ensures.ends ∙ c.if-forward.true))
 
 pub half-backward-requires : goal.half-backward-requires
 half-backward-requires c =
-    (c.requires.0, (c.requires.1.0, needs_backward (forward_put (goal.at.half-backward-requires c).After-half-forward (start_put (goal.at.half-backward-requires c).After-put))))
+    needs_backward (forward_put (goal.at.half-backward-requires c).After-half-forward (start_put (goal.at.half-backward-requires c).After-put))
 
 pub join-requires : goal.join-requires
 join-requires c =
     let e = both_put (goal.at.join-requires c).After-half-backward (forward_put (goal.at.join-requires c).After-half-forward (start_put (goal.at.join-requires c).After-put)) in
-    let k = c.requires.1.0 in
-    (omega arith, (omega arith, omega arith))
+    omega arith
 
-pub overflow_add-count : goal.overflow_add-count
-overflow_add-count c =
-    let e = both_put (goal.at.overflow_add-count c).After-half-backward (forward_put (goal.at.overflow_add-count c).After-half-forward (start_put (goal.at.overflow_add-count c).After-put)) in
-    let k = c.requires.1.0 in
+pub overflow_add-found-2 : goal.overflow_add-found-2
+overflow_add-found-2 c =
+    let e = both_put (goal.at.overflow_add-found-2 c).After-half-backward (forward_put (goal.at.overflow_add-found-2 c).After-half-forward (start_put (goal.at.overflow_add-found-2 c).After-put)) in
     search rules
 
-pub overflow_add-count-2 : goal.overflow_add-count-2
-overflow_add-count-2 c =
-    let e = both_put (goal.at.overflow_add-count-2 c).After-half-backward (forward_put (goal.at.overflow_add-count-2 c).After-half-forward (start_put (goal.at.overflow_add-count-2 c).After-put)) in
-    let k = c.requires.1.0 in
+pub overflow_add-found-3 : goal.overflow_add-found-3
+overflow_add-found-3 c =
+    let e = both_put (goal.at.overflow_add-found-3 c).After-half-backward (forward_put (goal.at.overflow_add-found-3 c).After-half-forward (start_put (goal.at.overflow_add-found-3 c).After-put)) in
     search rules
 
 pub finish-requires-2 : goal.finish-requires-2
 finish-requires-2 c =
     let e = both_put (goal.at.finish-requires-2 c).After-half-backward (forward_put (goal.at.finish-requires-2 c).After-half-forward (start_put (goal.at.finish-requires-2 c).After-put)) in
-    let k = c.requires.1.0 in
     let m = c.join.auto.points in
-    (omega arith, omega arith)
+    omega arith
 
 pub returns : goal.returns
 returns c =
-    c.finish-2.ensures ∙ settled_both (both_put (goal.at.returns c).After-half-backward (forward_put (goal.at.returns c).After-half-forward (start_put (goal.at.returns c).After-put))) c.join.ensures c.join.auto.points (c.backward_closing-closing.ensures ∙ ap (λ (t : Bool). pick t Backward Open) c.half-backward.ensures.ends)
+    c.finish-2.ensures ∙ settled_both (both_put (goal.at.returns c).After-half-backward (forward_put (goal.at.returns c).After-half-forward (start_put (goal.at.returns c).After-put))) c.join.ensures c.join.auto.points (c.backward_closing.ensures ∙ ap (λ (t : Bool). pick t Backward Open) c.half-backward.ensures.ends)
     ∙ ap (settled _ _) (both_halves_lem _ _ _ _ _ _ (sym c.half-forward.ensures.ends ∙ c.if-forward.false))

@@ -31,7 +31,7 @@ pub slice_bounds-walk_from-end-2 : goal.slice_bounds-walk_from-end-2
 slice_bounds-walk_from-end-2 c = sym (length-take-le _ _ (omega (arith, (fit (goal.at.slice_bounds-walk_from-end-2 c).In_ok-call_fitness).lent)))
 
 pub walk_from-requires : goal.walk_from-requires
-walk_from-requires c = ((fit (goal.at.walk_from-requires c).In_ok-call_fitness).cap, length-take-le _ _ (omega (arith, (fit (goal.at.walk_from-requires c).In_ok-call_fitness).lent)))
+walk_from-requires c = length-take-le _ _ (omega (arith, (fit (goal.at.walk_from-requires c).In_ok-call_fitness).lent))
 
 pub returns-in_err-call_fitness : goal.returns-in_err-call_fitness
 unfolding trace_of

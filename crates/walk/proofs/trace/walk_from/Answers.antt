@@ -1,10 +1,11 @@
 -- A law for each way out, from what the meeting and the tangent say.
 use Rattle.std.specs.Prelude.{Err, Some, None}
 use mathlib.Core.Path.{◌≡◌, refl, sym, ap, ◌∙◌}
-use mathlib.Core.List.{List, ◌++◌}
-use Prim.Native.Nat.{ℕ, ◌-◌}
+use mathlib.Core.List.{List}
+use Prim.Native.Nat.{ℕ}
 use lib.Ieee.{Float}
-use lib.ListN.{length, take, replicate}
+use lib.ListN.{length, replicate}
+use borrow.Author.Rules.{rules}
 use Rattle.number.specs.Helpers.{positive_zero}
 use Rattle.refusal.specs.declared.Refusal.{Refusal}
 use Rattle.refusal.specs.declared.Refusal.TheVariants as refusal
@@ -20,7 +21,6 @@ use Rattle.walk.specs.Line.{line_of}
 use Rattle.groups.specs.Traced.{TraceAnswer}
 use Rattle.groups.specs.Traced.{outcome}
 use Rattle.walk.specs.Trace.{room, refused_walk, settled, unwalked_of, walk_of}
-use Rattle.walk.proofs.Lists.{cleared}
 use Rattle.walk.proofs.trace.walk_from.Goals as goal
 
 module _ (a b : Patch) (tol : Tolerance) (guess : Parameters) (n : ℕ) where
@@ -37,22 +37,21 @@ module _ (a b : Patch) (tol : Tolerance) (guess : Parameters) (n : ℕ) where
   along x t m d = rw (m, d)
 
 -- a refusal leaves zeros
-zeros : (l : List Float) (n : ℕ) {m : List Float} {t : TraceAnswer} (r : Refusal) → t ≡ Err r → length l ≡ room n → m ≡ take 0 l ++ replicate (length l - 0) positive_zero
+zeros : (l : List Float) (n : ℕ) {m : List Float} {t : TraceAnswer} (r : Refusal) → t ≡ Err r → length l ≡ room n → m ≡ replicate (length l) positive_zero
     → outcome t m ≡ refused_walk r n
-zeros l n r f h e = rw f (ap (outcome (Err r)) (e ∙ cleared l ∙ ap (λ (k : ℕ). replicate k positive_zero) h))
+zeros l n r f h e = rw f (ap (outcome (Err r)) (e ∙ ap (λ (k : ℕ). replicate k positive_zero) h))
 
 pub returns-in_default : goal.returns-in_default
 returns-in_default c =
-    zeros c.args.points.now _ _ (c.unwalked.ensures ∙ ap unwalked_of c.in_default.is) c.requires.1 c.clear.ensures
+    let e : c.fill.new.self ≡ replicate (length c.args.points.now) positive_zero = search rules in
+    zeros c.args.points.now _ _ (c.unwalked.ensures ∙ ap unwalked_of c.in_default.is) c.requires e
     ∙ unmet _ _ _ _ _ _ (sym c.meet-met.ensures.answer ∙ c.in_default.is)
 
 pub returns-in_default-tangent : goal.returns-in_default-tangent
 returns-in_default-tangent c =
-    zeros c.args.points.now _ _ refl c.requires.1 c.clear-in_default-tangent.ensures
+    let e : c.fill-in_default-tangent.new.self ≡ replicate (length c.args.points.now) positive_zero = search rules in
+    zeros c.args.points.now _ _ refl c.requires e
     ∙ ten _ _ _ _ _ _ (sym c.meet-met.ensures.answer ∙ c.in-At.is) (sym c.tangent.ensures ∙ c.in_default-tangent.is)
-
-pub line-requires : goal.line-requires
-line-requires c = (c.eval_point-p.ensures, c.requires)
 
 pub returns : goal.returns
 returns c = c.line.ensures ∙ along _ _ _ _ _ _ _ (sym c.meet-met.ensures.answer ∙ c.in-At.is) (sym c.tangent.ensures ∙ c.in-Some.is)

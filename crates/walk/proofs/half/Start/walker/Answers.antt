@@ -1,5 +1,5 @@
 use Rattle.walk.specs.Line.{first_walker}
-use Rattle.walk.proofs.half.first_walker.Goals as goal
+use Rattle.walk.proofs.half.Start.walker.Goals as goal
 
 pub returns : goal.returns
 unfolding first_walker
