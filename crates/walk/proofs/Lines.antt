@@ -1,7 +1,7 @@
 -- The line in the buffer: the start, the forward half behind it, the backward half behind that, then joined.
 use mathlib.Core.Path.{◌≡◌, refl, ap, sym, ◌∙◌}
 use mathlib.Core.Bool.{Bool, true, false}
-use mathlib.Core.List.{List, [], ◌∷◌, ◌++◌, reverse, reverse-cons, reverse-append}
+use mathlib.Core.List.{List, ◌∷◌, ◌++◌, reverse, reverse-reverse}
 use Prim.Native.Nat.{ℕ, ◌+◌, ◌*◌, ◌-◌, ◌≤◌}
 use native.Mathlib.Omega.{arith}
 use lib.Ieee.{Float}
@@ -21,13 +21,10 @@ use Rattle.walk.specs.Lent.{placed, reversed_of, joined_of, rows_of}
 use Rattle.walk.specs.Line.{Half, half_of, Written}
 use Rattle.walk.specs.Line as line
 use Rattle.walk.specs.Trace.{room, finished_of, settled}
-use Rattle.walk.proofs.Lists.{back_from, back_from_lem, length_from, part_length}
+use Rattle.std.proofs.lemmas.List.Edits.{length-between}
+use Rattle.walk.proofs.Lists.{back_from, back_from_lem, length_from}
 use Rattle.walk.proofs.Rows.{length_put, rows_append, reversed_rows}
 use Rattle.walk.proofs.Joining.{joined_front}
-
-reverse_twice : (xs : List Parameters) → reverse (reverse xs) ≡ xs
-reverse_twice [] = refl
-reverse_twice (x ∷ xs) = ap reverse (reverse-cons x xs) ∙ reverse-append (reverse xs) (x ∷ []) ∙ ap (λ (z : List Parameters). x ∷ z) (reverse_twice xs)
 
 -- the part of the list that is lent from number k on
 abbrev from : ℕ → List Float → List Float
@@ -63,7 +60,7 @@ module _ {row : Parameters → Row} {x : Parameters} {n : ℕ} where
 
   module _ {l : List Float} (s : Started row x n l) where
     part₁ : length (from width l) ≡ length l - width
-    part₁ = part_length width l (let e = s.size in omega arith)
+    part₁ = length-between l width (length l) (omega arith)
 
     pub needs_forward : width * n ≤ length (from width l)
     needs_forward = let e = s.size in let p = part₁ in omega arith
@@ -96,7 +93,7 @@ module _ {row : Parameters → Row} {x : Parameters} {n : ℕ} where
     fits = let e = s.size in let k = s.few in omega arith
 
     part₂ : length (from (width * (1 + f)) l) ≡ length l - width * (1 + f)
-    part₂ = part_length (width * (1 + f)) l fits
+    part₂ = length-between l (width * (1 + f)) (length l) (omega arith)
 
     pub needs_backward : width * n ≤ length (from (width * (1 + f)) l)
     needs_backward = let e = s.size in let k = s.few in let p = part₂ in omega arith
@@ -122,7 +119,7 @@ module _ {row : Parameters → Row} {x : Parameters} {n : ℕ} where
           front =
               joined_front f k m (omega (arith, lm, s.few, w.few)) (ap (take (width * k)) d ∙ w.rows) e
               ∙ ap (λ (z : List Float). z ++ rows_of row fw)
-              (ap (λ (j : ℕ). reversed_of j (rows_of row (reverse bw))) (w.size ∙ sym (length-reverse bw)) ∙ reversed_rows row (reverse bw) ∙ ap (rows_of row) (reverse_twice bw))
+              (ap (λ (j : ℕ). reversed_of j (rows_of row (reverse bw))) (w.size ∙ sym (length-reverse bw)) ∙ reversed_rows row (reverse bw) ∙ ap (rows_of row) (reverse-reverse bw))
               ∙ sym (rows_append row bw fw);
         }
 

@@ -6,6 +6,7 @@ use native.Mathlib.Omega.{arith}
 use lib.Ieee.{Float}
 use lib.ListN.{length, take, drop, replicate, length-append, length-drop, drop_of_length-le}
 use lib.Seq.{length-take-le}
+use Rattle.std.proofs.lemmas.List.Edits.{length-between}
 
 abbrev pub back_from : ℕ → List Float → List Float → List Float
 back_from a l part = take a l ++ (part ++ drop (length l - a) (drop a l))
@@ -20,10 +21,7 @@ length_from a l part h e =
     ap length (back_from_lem a l part h) ∙ length-append (take a l) part
     ∙ (let z = length-take-le a l h in let g : length (take a l) + length part ≡ length l = omega (arith, z, e, h) in g)
 
-pub part_length : (a : ℕ) (l : List Float) → a ≤ length l → length (take (length l - a) (drop a l)) ≡ length l - a
-part_length a l h = let e = length-drop a l in length-take-le (length l - a) (drop a l) (omega (arith, e))
-
 -- zeros from a place on
 pub zeros_from : (a : ℕ) (l : List Float) {part : List Float} (z : Float) → a ≤ length l → part ≡ replicate (length (take (length l - a) (drop a l))) z
     → back_from a l part ≡ take a l ++ replicate (length l - a) z
-zeros_from a l z h e = back_from_lem a l _ h ∙ ap (λ (r : List Float). take a l ++ r) (e ∙ ap (λ (k : ℕ). replicate k z) (part_length a l h))
+zeros_from a l z h e = back_from_lem a l _ h ∙ ap (λ (r : List Float). take a l ++ r) (e ∙ ap (λ (k : ℕ). replicate k z) (length-between l a (length l) (omega arith)))

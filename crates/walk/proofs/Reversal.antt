@@ -1,29 +1,21 @@
 -- Points reversed in place: a number by its point and its place in the point.
 use mathlib.Core.Path.{◌≡◌, refl, ap, sym, subst, ◌∙◌}
 use mathlib.Core.List.{List, [], ◌∷◌, ◌++◌, append-nil, append_assoc}
-use mathlib.Core.Logic.{◌⊎◌, inl, inr, ⊎_elim}
+use mathlib.Core.Logic.{⊎_elim}
 use Prim.Native.Nat.{ℕ, zero, suc, ◌+◌, ◌*◌, ◌-◌, ◌/◌, ◌%◌, ◌≤◌, ◌<◌}
 use native.Mathlib.Omega.{arith}
 use native.Mathlib.Nat.{eq-or-lt_of_le}
 use native.Mathlib.Numerals.{add-one}
-use mathlib.Core.Bool.{Bool, true, false}
-use lib.Dec.{ltb}
-use borrow.Author.Tests.{ltb-true, ltb-false}
 use lib.Ieee.{Float, nan}
 use lib.ListN.{length, take, drop, get_or, length-append, length-drop, take-append-drop, get_or-append}
 use lib.Seq.{length-take-le, take-append-le, drop-append-le, take-length, get_or-append-add, get_or-take, get_or-drop, ext_get_or}
+use Rattle.std.proofs.lemmas.Bool.{cases_lt}
 use Rattle.loops.proofs.Over.{length_over}
 use Rattle.groups.specs.Groups.{width}
 use Rattle.groups.specs.declared.row.Row.{Row}
 use Rattle.groups.specs.Row.{numbers_of, row_from}
+use Rattle.groups.proofs.Rows.{row_number}
 use Rattle.walk.specs.Lent.{placed, reversed_of}
-
-lt_or_ge : (a b : ℕ) → (a < b) ⊎ (b ≤ a)
-lt_or_ge a b = go (ltb a b) refl
-  where
-    go : (t : Bool) → ltb a b ≡ t → (a < b) ⊎ (b ≤ a)
-    go true e = inl (ltb-true a b e)
-    go false e = inr (ltb-false a b e)
 
 -- one past a list, by how far past it
 past : (p q : List Float) (n t : ℕ) → length p + n ≡ t → get_or (p ++ q) t nan ≡ get_or q n nan
@@ -54,21 +46,10 @@ module _ (l : List Float) (at : ℕ) (q : Row) (fits : at + width ≤ length l) 
       ∙ get_or-drop (at + width) l (t - (at + width)) nan
       ∙ ap (λ (k : ℕ). get_or l k nan) (let e : at + width + (t - (at + width)) ≡ t = omega arith in e)
 
--- the numbers of a point that was read
-read_at : (l : List Float) (at r : ℕ) → r < width → get_or (numbers_of (row_from l at)) r nan ≡ get_or l (at + r) nan
-read_at l at zero h = ap (λ (k : ℕ). get_or l k nan) (let e : at ≡ at + 0 = omega arith in e)
-read_at l at (suc zero) h = refl
-read_at l at (suc (suc zero)) h = refl
-read_at l at (suc (suc (suc zero))) h = refl
-read_at l at (suc (suc (suc (suc zero)))) h = refl
-read_at l at (suc (suc (suc (suc (suc zero))))) h = refl
-read_at l at (suc (suc (suc (suc (suc (suc zero)))))) h = refl
-read_at l at (suc (suc (suc (suc (suc (suc (suc r))))))) h = absurd (let e : ⊥ = omega arith in e)
-
 -- a point stored over point j: what stands at point j, and at another
 pub stored_same : (l m : List Float) (j i r : ℕ) {q : Row} → width * j + width ≤ length l → r < width → q ≡ row_from m (width * i)
     → get_or (placed l (width * j) q) (width * j + r) nan ≡ get_or m (width * i + r) nan
-stored_same l m j i r fits h e = rw e (inside l (width * j) (row_from m (width * i)) fits r h ∙ read_at m (width * i) r h)
+stored_same l m j i r fits h e = rw e (inside l (width * j) (row_from m (width * i)) fits r h ∙ row_number m i r h)
 
 pub stored_other : (l : List Float) (j a r : ℕ) (q : Row) → width * j + width ≤ length l → r < width → (a ≡ j → ⊥)
     → get_or (placed l (width * j) q) (width * a + r) nan ≡ get_or l (width * a + r) nan
@@ -76,7 +57,7 @@ stored_other l j a r q fits h ne =
     ⊎_elim
     (λ (lo : a < j). before l (width * j) q fits (width * a + r) (omega arith))
     (λ (hi : j ≤ a). ⊎_elim (λ (e : j ≡ a). absurd (ne (sym e))) (λ (g : j < a). beyond l (width * j) q fits (width * a + r) (omega arith)) (eq-or-lt_of_le hi))
-    (lt_or_ge a j)
+    (cases_lt a j)
 
 -- `reversed_of`, by point and place
 pub length_reversed : (k : ℕ) (l : List Float) → length l ≡ width * k → length (reversed_of k l) ≡ width * k
@@ -105,7 +86,7 @@ reversed_at (suc k) l h a r ha hr =
     past (reversed_of k (drop width l)) (take width l) r (width * a + r) (omega arith)
     ∙ get_or-take width l r nan hr
     ∙ ap (λ (t : ℕ). get_or l t nan) (let e : r ≡ width * (suc k - 1 - a) + r = omega arith in e))
-    (lt_or_ge a k)
+    (cases_lt a k)
 
 -- of lists one behind the other, and twice
 pub reversed_append : (j k : ℕ) (xs ys : List Float) → length xs ≡ width * j → reversed_of (j + k) (xs ++ ys) ≡ reversed_of k ys ++ reversed_of j xs
@@ -194,14 +175,14 @@ module _ (k i : ℕ) (b s : List Float) (hb : length b ≡ width * k) (hi : i < 
         (λ (g : i ≤ a). let e : a ≡ i = omega arith in
         subst (λ (j : ℕ). get_or s'' (width * j + r) nan ≡ get_or b (width * (k - 1 - j) + r) nan) (sym e)
         (at_low r h ∙ v.middle (k - 1 - i) r h (omega arith) (omega arith)))
-        (lt_or_ge a i);
+        (cases_lt a i);
     high = λ a r h l m. ⊎_elim
         (λ (g : a < k - i). let e : a ≡ k - 1 - i = omega arith in
         subst (λ (j : ℕ). get_or s'' (width * j + r) nan ≡ get_or b (width * (k - 1 - j) + r) nan) (sym e)
         (at_high r h ∙ v.middle i r h (omega arith) (omega arith)
         ∙ ap (λ (j : ℕ). get_or b (width * j + r) nan) (let f : i ≡ k - 1 - (k - 1 - i) = omega arith in f)))
         (λ (g : k - i ≤ a). at_other a r h (λ e. omega arith) (λ e. omega arith) ∙ v.high a r h l g)
-        (lt_or_ge a (k - i));
+        (cases_lt a (k - i));
     middle = λ a r h l m. at_other a r h (λ e. omega arith) (λ e. omega arith) ∙ v.middle a r h (omega arith) (omega arith);
   }
 
@@ -223,5 +204,5 @@ reversing_done k i b s hb lo hi v =
         (λ (g : i ≤ a). ⊎_elim
         (λ (f : a < k - i). v.middle a r hr g f ∙ ap (λ (j : ℕ). get_or b (width * j + r) nan) (let e : a ≡ k - 1 - a = omega arith in e))
         (λ (f : k - i ≤ a). v.high a r hr ha f)
-        (lt_or_ge a (k - i)))
-        (lt_or_ge a i)
+        (cases_lt a (k - i)))
+        (cases_lt a i)

@@ -1,30 +1,18 @@
 -- The invariant is `Going`: the buffer holds the points so far, in the order walked.
-use Rattle.walk.proofs.Halves.{begun_is, going_start, fits, few_left, going_on, held, going_ended, going_edge, going_closed, going_spent}
+use Rattle.walk.proofs.Halves.{begun_is, going_start, going_on, held, going_ended, going_edge, going_closed, going_spent}
 use Rattle.walk.proofs.half.half.Goals as goal
 
 pub loop-count-init : goal.loop-count-init
 loop-count-init c = going_start c.args.start.now.own c.requires
 
-pub put-requires : goal.put-requires
-put-requires c = let h = c.loop-count-test.true in fits c.loop-count.invariant h h
-
 pub left_of-left-requires : goal.left_of-left-requires
 left_of-left-requires c = held c.loop-count.invariant c.loop-count-test.true c.step.ensures c.in-Closed.is
-
-pub put-requires-in-Closed : goal.put-requires-in-Closed
-put-requires-in-Closed c =
-    let v = c.loop-count.invariant in
-    let h = c.loop-count-test.true in
-    fits v h (few_left v h c.in-Closed.removed c.left_of-left.ensures)
 
 pub returns-in-Closed : goal.returns-in-Closed
 returns-in-Closed c =
     let v = c.loop-count.invariant in
     going_closed v c.loop-count-test.true c.step.ensures (begun_is v _ c.walker-w.ensures c.first_stride-h.ensures)
     c.in-Closed.is c.left_of-left.ensures c.row_for-in-Closed.ensures c.put-in-Closed.ensures
-
-pub put-requires-in-Edge : goal.put-requires-in-Edge
-put-requires-in-Edge c = let h = c.loop-count-test.true in fits c.loop-count.invariant h h
 
 pub returns-in-Edge : goal.returns-in-Edge
 returns-in-Edge c =

@@ -1,15 +1,12 @@
 -- i points at each end are exchanged, those between are as they were
-use mathlib.Core.Path.{◌≡◌, refl, sym, ◌∙◌}
+use mathlib.Core.Path.{◌≡◌, sym, ◌∙◌}
 use Prim.Native.Nat.{◌-◌, ◌<◌, ◌*◌, ◌/◌}
 use native.Mathlib.Omega.{arith}
 use lib.ListN.{length}
 use Rattle.groups.specs.Groups.{width}
 use Rattle.groups.proofs.Rows.{row_there}
-use Rattle.walk.proofs.Reversal.{reversing_start, reversing_again, reversing_done}
+use Rattle.walk.proofs.Reversal.{reversing_again, reversing_done}
 use Rattle.walk.proofs.lent.reverse.Goals as goal
-
-pub loop-i-init : goal.loop-i-init
-loop-i-init c = (reversing_start _ _, (omega arith, refl))
 
 pub loop-i-preserved : goal.loop-i-preserved
 loop-i-preserved c =
@@ -24,9 +21,6 @@ loop-i-preserved c =
           c.put.ensures c.put-in-loop-i.ensures,
       (omega (arith, h), p.invariant.1.1),
     )
-
-pub shape_of-points : goal.shape_of-points
-shape_of-points c = c.loop-i.invariant.0.size
 
 pub returns : goal.returns
 returns c = reversing_done _ c.loop-i.i c.args.points.now c.loop-i.points (sym c.requires) (omega (arith, c.loop-i-test.false)) c.loop-i.invariant.1.0 c.loop-i.invariant.0

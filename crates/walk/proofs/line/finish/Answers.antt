@@ -1,4 +1,4 @@
-use Rattle.std.proofs.Common.{◌≡◌, ap, length, rules}
+use Rattle.std.proofs.Common.{◌≡◌, ap, length}
 use borrow.Author.Tests.{le-leb, lt-leb}
 use lib.ListN.{replicate, take, drop}
 use Prim.Native.Nat.{◌-◌, ◌*◌}
@@ -12,7 +12,7 @@ use Rattle.walk.proofs.line.finish.Goals as goal
 pub returns-then-found-lt-LEAST_POINTS : goal.returns-then-found-lt-LEAST_POINTS
 unfolding finished_of
 returns-then-found-lt-LEAST_POINTS c =
-    let e : c.fill.new.self ≡ replicate (length c.args.points.now) positive_zero = search rules in
+    let e : c.fill.new.self ≡ replicate (length c.args.points.now) positive_zero = c.fill.ensures.after (λ y h. h) in
     rw (lt-leb least_points c.args.found.count c.if-found-lt-LEAST_POINTS.true) (ap (outcome _) e)
 
 pub returns : goal.returns
@@ -20,5 +20,5 @@ unfolding finished_of
 returns c =
     let l = c.args.points.now in
     let a = width * c.args.found.count in
-    let e : c.fill-2.new.self ≡ replicate (length (take (length l - a) (drop a l))) positive_zero = search rules in
+    let e : c.fill-2.new.self ≡ replicate (length (take (length l - a) (drop a l))) positive_zero = c.fill-2.ensures.after (λ y h. h) in
     rw (le-leb least_points c.args.found.count c.if-found-lt-LEAST_POINTS.false) (ap (outcome _) (zeros_from a l positive_zero c.requires e))

@@ -2,8 +2,6 @@
 use mathlib.Core.Path.{sym, ap, ◌∙◌}
 use mathlib.Core.Bool.{Bool}
 use Prim.Native.Nat.{◌+◌, ◌*◌}
-use native.Mathlib.Omega.{arith}
-use borrow.Author.Rules.{rules}
 use mathlib.Core.List.{List}
 use lib.Ieee.{Float}
 use Rattle.loops.specs.Loop.{pick}
@@ -14,7 +12,7 @@ use Rattle.walk.specs.Lent.{row_for, own_row}
 use Rattle.walk.specs.Line.{Half, half_of, forward, backward}
 use Rattle.walk.specs.Trace.{settled}
 use Rattle.walk.proofs.Lists.{back_from}
-use Rattle.walk.proofs.Lines.{Started, Forward, Both, started, needs_forward, forward_half, needs_backward, backward_half, settled_forward, settled_both, closed_forward_lem, both_halves_lem}
+use Rattle.walk.proofs.Lines.{Started, Forward, Both, started, forward_half, backward_half, settled_forward, settled_both, closed_forward_lem, both_halves_lem}
 use Rattle.walk.proofs.line.line.Goals as goal
 use Rattle.walk.proofs.line.line.Goals.{After-half-backward, After-half-forward, After-put}
 
@@ -46,37 +44,8 @@ module _ (c : After-half-backward) where
       (back_from (width * (1 + c.half-forward.result.count)) first_put c.half-backward.new.out) c.half-forward.result.count c.half-backward.result.count
   both_put f = backward_half f c.half-backward.auto.out c.half-backward.ensures
 
-pub half-forward-requires : goal.half-forward-requires
-half-forward-requires c =
-    needs_forward (start_put (goal.at.half-forward-requires c).After-put)
-
 pub returns-then-forward : goal.returns-then-forward
 returns-then-forward c = c.finish.ensures ∙ settled_forward (forward_put (goal.at.returns-then-forward c).After-half-forward (start_put (goal.at.returns-then-forward c).After-put)) ∙ ap (settled _ _) (closed_forward_lem _ _ _ _ _ _ (sym c.half-forward.ensures.ends ∙ c.if-forward.true))
-
-pub half-backward-requires : goal.half-backward-requires
-half-backward-requires c =
-    needs_backward (forward_put (goal.at.half-backward-requires c).After-half-forward (start_put (goal.at.half-backward-requires c).After-put))
-
-pub join-requires : goal.join-requires
-join-requires c =
-    let e = both_put (goal.at.join-requires c).After-half-backward (forward_put (goal.at.join-requires c).After-half-forward (start_put (goal.at.join-requires c).After-put)) in
-    omega arith
-
-pub overflow_add-found-2 : goal.overflow_add-found-2
-overflow_add-found-2 c =
-    let e = both_put (goal.at.overflow_add-found-2 c).After-half-backward (forward_put (goal.at.overflow_add-found-2 c).After-half-forward (start_put (goal.at.overflow_add-found-2 c).After-put)) in
-    search rules
-
-pub overflow_add-found-3 : goal.overflow_add-found-3
-overflow_add-found-3 c =
-    let e = both_put (goal.at.overflow_add-found-3 c).After-half-backward (forward_put (goal.at.overflow_add-found-3 c).After-half-forward (start_put (goal.at.overflow_add-found-3 c).After-put)) in
-    search rules
-
-pub finish-requires-2 : goal.finish-requires-2
-finish-requires-2 c =
-    let e = both_put (goal.at.finish-requires-2 c).After-half-backward (forward_put (goal.at.finish-requires-2 c).After-half-forward (start_put (goal.at.finish-requires-2 c).After-put)) in
-    let m = c.join.auto.points in
-    omega arith
 
 pub returns : goal.returns
 returns c =

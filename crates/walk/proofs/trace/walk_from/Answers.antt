@@ -5,7 +5,6 @@ use mathlib.Core.List.{List}
 use Prim.Native.Nat.{ℕ}
 use lib.Ieee.{Float}
 use lib.ListN.{length, replicate}
-use borrow.Author.Rules.{rules}
 use Rattle.number.specs.Helpers.{positive_zero}
 use Rattle.refusal.specs.declared.Refusal.{Refusal}
 use Rattle.refusal.specs.declared.Refusal.TheVariants as refusal
@@ -43,15 +42,18 @@ zeros l n r f h e = rw f (ap (outcome (Err r)) (e ∙ ap (λ (k : ℕ). replicat
 
 pub returns-in_default : goal.returns-in_default
 returns-in_default c =
-    let e : c.fill.new.self ≡ replicate (length c.args.points.now) positive_zero = search rules in
+    let e : c.fill.new.self ≡ replicate (length c.args.points.now) positive_zero = c.fill.ensures.after (λ y h. h) in
     zeros c.args.points.now _ _ (c.unwalked.ensures ∙ ap unwalked_of c.in_default.is) c.requires e
     ∙ unmet _ _ _ _ _ _ (sym c.meet-met.ensures.answer ∙ c.in_default.is)
 
 pub returns-in_default-tangent : goal.returns-in_default-tangent
 returns-in_default-tangent c =
-    let e : c.fill-in_default-tangent.new.self ≡ replicate (length c.args.points.now) positive_zero = search rules in
+    let e : c.fill-in_default-tangent.new.self ≡ replicate (length c.args.points.now) positive_zero = c.fill-in_default-tangent.ensures.after (λ y h. h) in
     zeros c.args.points.now _ _ refl c.requires e
     ∙ ten _ _ _ _ _ _ (sym c.meet-met.ensures.answer ∙ c.in-At.is) (sym c.tangent.ensures ∙ c.in_default-tangent.is)
+
+pub invariant_of-start : goal.invariant_of-start
+invariant_of-start c = record { own = c.eval_point-p.ensures }
 
 pub returns : goal.returns
 returns c = c.line.ensures ∙ along _ _ _ _ _ _ _ (sym c.meet-met.ensures.answer ∙ c.in-At.is) (sym c.tangent.ensures ∙ c.in-Some.is)
