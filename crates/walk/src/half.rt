@@ -13,24 +13,20 @@ use patch::{Parameters, Patch};
 use step::step::step;
 use step::{Stepped, Walker, first_stride};
 
-// What both halves of a line begin with: the two surfaces and the tolerance, the meeting's parameters x, its point p of A, the tangent t
-// there, and the most steps n of a half.
+// Where both halves of a line begin: the meeting's parameters x, its point p of A and the tangent t there.
+// Kept (5): the surfaces, the tolerance and n go beside it. With them in the struct (tried) the surfaces are copied once more and read back
+// in other pieces, and a walk of two steps takes 7% longer.
 #[derive(Clone, Copy)]
 pub(crate) struct Start {
-    pub a: Patch,
-    pub b: Patch,
-    pub tol: Tolerance,
     pub x: Parameters,
     pub p: Point3D,
     pub t: Vector3D,
-    pub n: usize,
-    ghost own: { p ≡ point_a a x },
 }
 
 impl Start {
     // Where a half begins: in the tangent's direction or against it.
-    fn walker(&self, dir: f64) -> Walker
-        ensures { result ≡ first_walker self.now.x self.now.p self.now.t dir }
+    fn walker(self, dir: f64) -> Walker
+        ensures { result ≡ first_walker self.x self.p self.t dir }
     {
         Walker {
             x: self.x,
@@ -68,15 +64,24 @@ fn left_of(count: usize, removed: bool) -> usize
     if removed { count - 1 } else { count }
 }
 
-// The points of a half from the front of `out` on, in the order walked.
-pub(crate) fn half(out: &mut [f64], start: &Start, dir: f64) -> Reached
-    requires { width * start.now.n ≤ length out.old }
-    ensures { Written (own_row start.now.a) start.now.n (half_of start.now.a start.now.b start.now.tol dir start.now.x start.now.t start.now.n) out.new result.count result.closed }
+// The points of a half from the front of `out` on, in the order walked: at most n steps from the start.
+pub(crate) fn half(
+    out: &mut [f64],
+    a: Patch,
+    b: Patch,
+    tol: Tolerance,
+    dir: f64,
+    start: Start,
+    n: usize,
+) -> Reached
+    requires own { start.p ≡ point_a a start.x }
+    requires room { width * n ≤ length out.old }
+    ensures { Written (own_row a) n (half_of a b tol dir start.x start.t n) out.new result.count result.closed }
 {
     let mut w = start.walker(dir);
-    let mut h = first_stride(start.tol.confusion);
-    for count in 0..start.n {
-        match step(start.a, start.b, start.tol, dir, start.p, count, w, h) {
+    let mut h = first_stride(tol.confusion);
+    for count in 0..n {
+        match step(a, b, tol, dir, start.p, count, w, h) {
             Stepped::Onward { next, length } => {
                 put(&mut *out, WIDTH * count, row_for(next.p, next.x));
                 w = next;
@@ -97,5 +102,5 @@ pub(crate) fn half(out: &mut [f64], start: &Start, dir: f64) -> Reached
             Stepped::Ended => return Reached::open(count),
         }
     }
-    Reached::open(start.n)
+    Reached::open(n)
 }

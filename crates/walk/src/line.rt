@@ -3,6 +3,7 @@
 ghost use Rattle.std.specs.Prelude.{◌≡◌, ◌+◌, ◌*◌, ◌≤◌, length};
 ghost use Rattle.loops.specs.Loop.{pick};
 ghost use Rattle.groups.specs.Groups.{width};
+ghost use Rattle.patch.specs.Located.{point_a};
 ghost use Rattle.walk.specs.Lent.{joined_of, own_row};
 ghost use Rattle.walk.specs.Line.{line_of};
 ghost use Rattle.groups.specs.Traced.{outcome};
@@ -11,7 +12,9 @@ ghost use Rattle.walk.specs.Trace.{room, finished_of, settled};
 
 use crate::half::{Start, half};
 use crate::lent::{put, reverse, row_for};
+use geometry::Tolerance;
 use groups::{Closing, LEAST_POINTS, Traced, WIDTH};
+use patch::Patch;
 use refusal::Refusal;
 
 // The start and `forward` points behind it, then `backward` points: those reversed come first.
@@ -50,12 +53,20 @@ fn backward_closing(closed: bool) -> Closing
 }
 
 // The line through the start.
-pub(crate) fn line(points: &mut [f64], start: &Start) -> Result<Traced, Refusal>
-    requires { length points.old ≡ room start.now.n }
-    ensures { outcome result points.new ≡ settled (own_row start.now.a) start.now.n (line_of start.now.a start.now.b start.now.tol start.now.x start.now.t start.now.n) }
+pub(crate) fn line(
+    points: &mut [f64],
+    a: Patch,
+    b: Patch,
+    tol: Tolerance,
+    start: Start,
+    n: usize,
+) -> Result<Traced, Refusal>
+    requires own { start.p ≡ point_a a start.x }
+    requires whole { length points.old ≡ room n }
+    ensures { outcome result points.new ≡ settled (own_row a) n (line_of a b tol start.x start.t n) }
 {
     put(&mut *points, 0, row_for(start.p, start.x));
-    let forward = half(&mut points[WIDTH..], start, 1.0);
+    let forward = half(&mut points[WIDTH..], a, b, tol, 1.0, start, n);
     if forward.closed {
         let found = Traced {
             count: 1 + forward.count,
@@ -65,7 +76,7 @@ pub(crate) fn line(points: &mut [f64], start: &Start) -> Result<Traced, Refusal>
         return finish(&mut *points, found);
     }
     let behind = WIDTH * (1 + forward.count);
-    let backward = half(&mut points[behind..], start, -1.0);
+    let backward = half(&mut points[behind..], a, b, tol, -1.0, start, n);
     join(&mut *points, forward.count, backward.count);
     let found = Traced {
         count: 1 + forward.count + backward.count,

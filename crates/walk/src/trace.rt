@@ -83,16 +83,7 @@ fn walk_from(
         return Err(Refusal::NoDirection);
     };
     let p = a.surface.eval_point(seed.u1, seed.v1);
-    let start = Start {
-        a,
-        b,
-        tol,
-        x: seed,
-        p,
-        t,
-        n,
-    };
-    line(&mut *points, &start)
+    line(&mut *points, a, b, tol, Start { x: seed, p, t }, n)
 }
 
 // The line where A and B meet, through the meeting that the guess leads to, in the lent buffer: seven numbers a point, then zeros, in its

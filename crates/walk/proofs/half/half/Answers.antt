@@ -3,7 +3,7 @@ use Rattle.walk.proofs.Halves.{begun_is, going_start, going_on, held, going_ende
 use Rattle.walk.proofs.half.half.Goals as goal
 
 pub loop-count-init : goal.loop-count-init
-loop-count-init c = going_start c.args.start.now.own c.requires
+loop-count-init c = going_start c.requires.own c.requires.room
 
 pub left_of-left-requires : goal.left_of-left-requires
 left_of-left-requires c = held c.loop-count.invariant c.loop-count-test.true c.step.ensures c.in-Closed.is

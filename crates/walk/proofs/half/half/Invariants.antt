@@ -4,5 +4,4 @@ use Rattle.walk.proofs.half.half.Given as goal
 
 abbrev pub invariant-loop-count : goal.invariant-loop-count
 invariant-loop-count l =
-    let s = l.start in
-    Going s.a s.b s.tol l.dir s.x s.p s.n l.initial.w l.initial.h l.initial.out l.out l.w l.h l.count
+    Going l.a l.b l.tol l.dir l.start.x l.start.p l.n l.initial.w l.initial.h l.initial.out l.out l.w l.h l.count

@@ -1,12 +1,22 @@
-use mathlib.Core.Path.{◌≡◌}
-use mathlib.Core.List.{append_assoc}
+use mathlib.Core.Path.{◌≡◌, ap, ◌∙◌}
+use mathlib.Core.List.{List, ◌++◌, append_assoc}
 use Prim.Native.Nat.{◌+◌, ◌-◌}
 use native.Mathlib.Omega.{arith}
-use lib.Seq.{drop-drop}
+use lib.Ieee.{Float}
+use lib.ListN.{length, take, drop, set, drop_of_length-le}
+use lib.Seq.{drop-drop, sets-eq}
 use Rattle.groups.specs.Groups.{width}
+use Rattle.groups.specs.declared.row.Row.{Row}
+use Rattle.groups.specs.Row.{numbers_of}
+use Rattle.std.proofs.lemmas.List.Edits.{length-between}
 use Rattle.walk.proofs.lent.put.Goals as goal
+
+-- seven stores over seven numbers
+stored : (l : List Float) (r : Row) → length l ≡ width → set (set (set (set (set (set (set l 0 r.x) 1 r.y) 2 r.z) 3 r.u1) 4 r.v1) 5 r.u2) 6 r.v2 ≡ numbers_of r
+stored l r h = sets-eq (numbers_of r) l 0 (omega (arith, h)) ∙ ap (λ (z : List Float). numbers_of r ++ z) (drop_of_length-le l {i = width} (omega (arith, h)))
 
 pub returns : goal.returns
 returns c =
-    let gap : c.args.at + width - c.args.at ≡ width = omega arith in
-    rw (c.copy_from_slice.ensures.after, c.numbers.ensures, gap, drop-drop, append_assoc)
+    let g = c.args in
+    let e = length-between g.out.now g.at (g.at + width) c.requires in
+    rw (stored (take (g.at + width - g.at) (drop g.at g.out.now)) g.row (e ∙ omega arith), (let gap : g.at + width - g.at ≡ width = omega arith in gap), drop-drop, append_assoc)

@@ -18,29 +18,29 @@ use Rattle.walk.proofs.line.line.Goals.{After-half-backward, After-half-forward,
 
 -- ---- what the calls leave
 module _ (c : After-put) where
-  start_put : Started (own_row c.args.start.now.a) c.args.start.now.x c.args.start.now.n c.put.new.out
-  start_put = started c.args.points.now c.requires c.put.ensures (c.row_for.ensures ∙ ap (λ (q : Point3D). row_for q c.args.start.now.x) c.args.start.now.own)
+  start_put : Started (own_row c.args.a) c.args.start.x c.args.n c.put.new.out
+  start_put = started c.args.points.now c.requires.whole c.put.ensures (c.row_for.ensures ∙ ap (λ (q : Point3D). row_for q c.args.start.x) c.requires.own)
 
 module _ (c : After-half-forward) where
   abbrev forward_half_of : Half
-  forward_half_of = half_of c.args.start.now.a c.args.start.now.b c.args.start.now.tol forward c.args.start.now.x c.args.start.now.t c.args.start.now.n
+  forward_half_of = half_of c.args.a c.args.b c.args.tol forward c.args.start.x c.args.start.t c.args.n
 
   abbrev after_forward : List Float
   after_forward = back_from width c.put.new.out c.half-forward.new.out
 
-  forward_put : Started (own_row c.args.start.now.a) c.args.start.now.x c.args.start.now.n c.put.new.out
-      → Forward (own_row c.args.start.now.a) c.args.start.now.x c.args.start.now.n forward_half_of after_forward c.half-forward.result.count
+  forward_put : Started (own_row c.args.a) c.args.start.x c.args.n c.put.new.out
+      → Forward (own_row c.args.a) c.args.start.x c.args.n forward_half_of after_forward c.half-forward.result.count
   forward_put s = forward_half s c.half-forward.auto.out c.half-forward.ensures
 
 module _ (c : After-half-backward) where
   abbrev first_half : Half
-  first_half = half_of c.args.start.now.a c.args.start.now.b c.args.start.now.tol forward c.args.start.now.x c.args.start.now.t c.args.start.now.n
+  first_half = half_of c.args.a c.args.b c.args.tol forward c.args.start.x c.args.start.t c.args.n
 
   abbrev first_put : List Float
   first_put = back_from width c.put.new.out c.half-forward.new.out
 
-  both_put : Forward (own_row c.args.start.now.a) c.args.start.now.x c.args.start.now.n first_half first_put c.half-forward.result.count
-      → Both (own_row c.args.start.now.a) c.args.start.now.x c.args.start.now.n first_half (half_of c.args.start.now.a c.args.start.now.b c.args.start.now.tol backward c.args.start.now.x c.args.start.now.t c.args.start.now.n)
+  both_put : Forward (own_row c.args.a) c.args.start.x c.args.n first_half first_put c.half-forward.result.count
+      → Both (own_row c.args.a) c.args.start.x c.args.n first_half (half_of c.args.a c.args.b c.args.tol backward c.args.start.x c.args.start.t c.args.n)
       (back_from (width * (1 + c.half-forward.result.count)) first_put c.half-backward.new.out) c.half-forward.result.count c.half-backward.result.count
   both_put f = backward_half f c.half-backward.auto.out c.half-backward.ensures
 

@@ -52,8 +52,8 @@ returns-in_default-tangent c =
     zeros c.args.points.now _ _ refl c.requires e
     ∙ ten _ _ _ _ _ _ (sym c.meet-met.ensures.answer ∙ c.in-At.is) (sym c.tangent.ensures ∙ c.in_default-tangent.is)
 
-pub invariant_of-start : goal.invariant_of-start
-invariant_of-start c = record { own = c.eval_point-p.ensures }
+pub line-requires : goal.line-requires
+line-requires c = record { own = c.eval_point-p.ensures; whole = c.requires }
 
 pub returns : goal.returns
 returns c = c.line.ensures ∙ along _ _ _ _ _ _ _ (sym c.meet-met.ensures.answer ∙ c.in-At.is) (sym c.tangent.ensures ∙ c.in-Some.is)
