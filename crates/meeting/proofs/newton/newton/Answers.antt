@@ -26,22 +26,13 @@ unfolding newton_of
 start_is c = rw c.residual_at-s.ensures
 
 pub loop-i-init : goal.loop-i-init
-loop-i-init c = (refl, omega arith)
+loop-i-init c = refl
 
 pub returns-in-Break : goal.returns-in-Break
-returns-in-Break c = searched_leave _ _ _ most_rounds c.loop-i-test.true (said _ _ _ _ c.loop-i.i _ c.newton_round.ensures c.in-Break.is) c.loop-i.invariant.0 ∙ start_is (goal.at.returns-in-Break c).After-residual_at-s
-
-pub overflow_step-i : goal.overflow_step-i
-overflow_step-i c = omega (arith, c.loop-i-test.true)
-
-pub loop-i-smaller : goal.loop-i-smaller
-loop-i-smaller c = omega (arith, c.loop-i-test.true)
+returns-in-Break c = searched_leave _ _ _ most_rounds c.loop-i-test.true (said _ _ _ _ c.loop-i.i _ c.newton_round.ensures c.in-Break.is) c.loop-i.invariant ∙ start_is (goal.at.returns-in-Break c).After-residual_at-s
 
 pub loop-i-preserved : goal.loop-i-preserved
-loop-i-preserved c = (
-  searched_again _ _ _ most_rounds c.loop-i-test.true (said _ _ _ _ c.loop-i.i _ c.newton_round.ensures c.in-Continue.is) c.loop-i.invariant.0,
-  omega (arith, c.loop-i-test.true),
-)
+loop-i-preserved c = searched_again _ _ _ most_rounds c.loop-i-test.true (said _ _ _ _ c.loop-i.i _ c.newton_round.ensures c.in-Continue.is) c.loop-i.invariant
 
 pub returns : goal.returns
-returns c = c.last_test.ensures ∙ searched_done _ _ _ most_rounds c.loop-i-test.false c.loop-i.invariant.0 ∙ start_is (goal.at.returns c).After-residual_at-s
+returns c = c.last_test.ensures ∙ searched_done _ _ _ most_rounds c.loop-i-test.false c.loop-i.invariant ∙ start_is (goal.at.returns c).After-residual_at-s

@@ -1,11 +1,7 @@
 -- The loop's invariant: the rounds left give what all of them give.
 use mathlib.Core.Path.{◌≡◌}
-use Prim.Native.Nat.{◌-◌, ◌≤◌}
 use Rattle.meeting.specs.Newton.{most_rounds, rounds_from}
 use Rattle.meeting.proofs.newton.newton.Given as goal
 
 abbrev pub invariant-loop-i : goal.invariant-loop-i
-invariant-loop-i l = (rounds_from l.a l.b l.target l.confusion l.i l.s ≡ rounds_from l.a l.b l.target l.confusion 0 l.initial.s) × (l.i ≤ most_rounds)
-
-abbrev pub decreases-loop-i : goal.decreases-loop-i
-decreases-loop-i l = most_rounds - l.i
+invariant-loop-i l = rounds_from l.a l.b l.target l.confusion l.i l.s ≡ rounds_from l.a l.b l.target l.confusion 0 l.initial.s

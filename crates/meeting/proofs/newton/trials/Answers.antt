@@ -8,27 +8,19 @@ use Rattle.meeting.proofs.newton.trials.Goals as goal
 
 pub loop-init : goal.loop-init
 unfolding trials_of
-loop-init c = (refl, omega arith)
+loop-init c = refl
 
 pub returns-then-t-s : goal.returns-then-t-s
 returns-then-t-s c =
     searched_leave _ _ _ most_trials c.loop-test.true
     (rw (← c.shifted.ensures, ← c.within_bounds-y.ensures, ← c.residual_at-t.ensures) (sym (pick_taken _ c.if-t-s.true refl)))
-    c.loop.invariant.0
-
-pub overflow_step : goal.overflow_step
-overflow_step c = omega (arith, c.loop-test.true)
-
-pub loop-smaller : goal.loop-smaller
-loop-smaller c = omega (arith, c.loop-test.true)
+    c.loop.invariant
 
 pub loop-preserved : goal.loop-preserved
-loop-preserved c = (
-  searched_again _ _ _ most_trials c.loop-test.true
-      (rw (← c.shifted.ensures, ← c.within_bounds-y.ensures, ← c.residual_at-t.ensures) (sym (pick_left _ c.if-t-s.false refl)))
-      c.loop.invariant.0,
-  omega (arith, c.loop-test.true),
-)
+loop-preserved c =
+    searched_again _ _ _ most_trials c.loop-test.true
+    (rw (← c.shifted.ensures, ← c.within_bounds-y.ensures, ← c.residual_at-t.ensures) (sym (pick_left _ c.if-t-s.false refl)))
+    c.loop.invariant
 
 pub returns : goal.returns
-returns c = searched_done _ _ _ most_trials c.loop-test.false c.loop.invariant.0
+returns c = searched_done _ _ _ most_trials c.loop-test.false c.loop.invariant

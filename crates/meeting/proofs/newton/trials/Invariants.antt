@@ -1,11 +1,7 @@
 -- The loop's invariant: the trials left give what all of them give.
 use mathlib.Core.Path.{◌≡◌}
-use Prim.Native.Nat.{◌-◌, ◌≤◌}
 use Rattle.meeting.specs.Newton.{most_trials, trials_from, trials_of}
 use Rattle.meeting.proofs.newton.trials.Given as goal
 
 abbrev pub invariant-loop : goal.invariant-loop
-invariant-loop l = (trials_from l.a l.b l.target l.s l.d l.counter l.scale ≡ trials_of l.a l.b l.target l.s l.d) × (l.counter ≤ most_trials)
-
-abbrev pub decreases-loop : goal.decreases-loop
-decreases-loop l = most_trials - l.counter
+invariant-loop l = trials_from l.a l.b l.target l.s l.d l.counter l.scale ≡ trials_of l.a l.b l.target l.s l.d
