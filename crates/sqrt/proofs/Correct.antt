@@ -1,5 +1,6 @@
 -- The root of a finite number above 0 is the nearest number.
 use Rattle.std.proofs.Common.{◌≡◌, ℕ, zero, suc, ◌+◌, ◌*◌, ◌^◌, ◌<◌, ◌≤◌, false, T, ◌⊎◌, sym, subst, inl, inr, le_trans, le_of_eq, lt_of_lt_of_le, le_of_suc-le-suc, lt_of_le_of_lt, mul-le-mul_right, mul_assoc, mul-le-mul, eq-or-lt_of_le, mul-le-mul_left, mul-lt-mul_of_pos_right, mul-pos, add-one, arith, pow_pos}
+use Rattle.std.proofs.lemmas.Nat.{mul-lt}
 use native.Mathlib.Nat.{mul-mul-mul_comm}
 use lib.Ieee.{Float, binary64, fits}
 use lib.Ieee.Scale.{finite}
@@ -13,12 +14,6 @@ use Rattle.sqrt.proofs.Pattern.{units_fits, units_finite, under_top}
 use Rattle.sqrt.proofs.Shape.{Shape, shape, root_is}
 
 -- ---- the arithmetic: U is 2 ^ j, the result is g * U, the exact root that of M * (U * U)
-square_lt : (x y : ℕ) → x < y → x * x < y * y
-square_lt x y h = lt_of_lt_of_le (more x) (mul-le-mul h h)
-  where
-    more : (x : ℕ) → x * x < suc x * suc x
-    more x = omega arith
-
 farther_above : (M g U c : ℕ) → 0 < U → Nearest M g → (g + 1) * U ≤ c → 4 * (M * (U * U)) < (g * U + c) * (g * U + c)
 farther_above M g U c P h l =
     lt_of_lt_of_le
@@ -46,7 +41,7 @@ farther_below M k U c P h l =
 
 -- below a power of two the numbers stand closer, but there the root is no less than the result
 farther_power : (M g U c : ℕ) → g * g ≤ M → c < g * U → (g * U + c) * (g * U + c) < 4 * (M * (U * U))
-farther_power M g U c h l = lt_of_lt_of_le (square_lt (g * U + c) (g * U + g * U) (omega arith)) (le_trans (le_of_eq (re g U)) (mul-le-mul_left 4 (mul-le-mul_right (U * U) h)))
+farther_power M g U c h l = lt_of_lt_of_le (let h : g * U + c < g * U + g * U = omega arith in mul-lt (g * U + c) (g * U + c) (g * U + g * U) (g * U + g * U) h h) (le_trans (le_of_eq (re g U)) (mul-le-mul_left 4 (mul-le-mul_right (U * U) h)))
   where
     re : (g U : ℕ) → (g * U + g * U) * (g * U + g * U) ≡ 4 * (g * g * (U * U))
     re g U = omega arith

@@ -1,7 +1,7 @@
 -- The floor of a square root, and the whole number nearest to one.
-use Rattle.std.proofs.Common.{◌≡◌, ℕ, zero, suc, ◌+◌, ◌-◌, ◌*◌, ◌/◌, ◌^◌, ◌<◌, ◌≤◌, Bool, true, false, cond, not, T, leb, sym, refl, ap, ◌∙◌, subst, zero-le, le_trans, le_of_eq, lt_of_lt_of_le, le_of_suc-le-suc, add-sub_of_le, mul-le-mul, le_antisymm, lt_of_not-le, not-le_of_lt, add-one, arith, leb→le, pow_mono, pow-add}
+use Rattle.std.proofs.Common.{◌≡◌, ℕ, zero, suc, ◌+◌, ◌-◌, ◌*◌, ◌/◌, ◌^◌, ◌<◌, ◌≤◌, Bool, true, false, cond, not, T, leb, sym, ap, ◌∙◌, subst, zero-le, le_trans, le_of_eq, lt_of_lt_of_le, le_of_suc-le-suc, add-sub_of_le, mul-le-mul, le_antisymm, lt_of_not-le, not-le_of_lt, add-one, arith, leb→le, pow_mono, pow-add}
 use Prim.Native.Nat.{compare}
-use native.Mathlib.Nat.{pow-succ'}
+use Rattle.std.proofs.lemmas.Nat.{mul-pow}
 use lib.Dec.{nleb→lt}
 use lib.Ieee.{size, nearest}
 use lib.Ieee.Digits.{size-lt}
@@ -29,11 +29,7 @@ root_in_is (suc d) n h =
     digit n (root_in d (n / 4)) (root_in_is d (n / 4) (quarter n d h)) (leb ((r + 1) * (r + 1)) n) (leb→le ((r + 1) * (r + 1)) n) (nleb→lt ((r + 1) * (r + 1)) n)
 
 four_two : (d : ℕ) → 4 ^ d ≡ 2 ^ (2 * d)
-four_two zero = refl
-four_two (suc d) = pow-succ' 4 d ∙ ap (λ (x : ℕ). 4 * x) (four_two d) ∙ sym (pow-add 2 2 (2 * d)) ∙ ap (λ (x : ℕ). 2 ^ x) (twice d)
-  where
-    twice : (d : ℕ) → 2 + 2 * d ≡ 2 * suc d
-    twice d = omega arith
+four_two d = mul-pow 2 2 d ∙ sym (pow-add 2 d d) ∙ ap (λ (x : ℕ). 2 ^ x) (let e : d + d ≡ 2 * d = omega arith in e)
 
 half : (z : ℕ) → z ≤ 2 * (suc z / 2)
 half z = omega arith

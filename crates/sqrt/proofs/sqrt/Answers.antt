@@ -54,11 +54,6 @@ module _ (c : Else-x) where
 pub float_to_bits-bits : goal.float_to_bits-bits
 float_to_bits-bits c = no_nan c.args.x c.if-x.false
 
-pub scaled-requires : goal.scaled-requires
-scaled-requires c =
-    let d = (goal.at.scaled-requires c).Else-x in
-    omega (arith, c.if-exponent-eq2047.false, c.if-exponent-fraction-eq0.false, fraction d, exp_le d)
-
 -- a NaN
 pub returns-then-x : goal.returns-then-x
 unfolding sqrt_of
