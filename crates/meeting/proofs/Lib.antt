@@ -2,4 +2,3 @@ pub mod Symmetric
 pub mod Intersection
 pub mod Rounds
 pub mod Evaluated
-pub mod Free

@@ -2,7 +2,6 @@
 use Rattle.std.proofs.Common.{ControlFlow}
 use mathlib.Core.Path.{◌≡◌, refl, sym, ap, ◌∙◌}
 use Prim.Native.Nat.{ℕ}
-use native.Mathlib.Omega.{arith}
 use lib.Ieee.{Float}
 use Rattle.loops.proofs.Loop.{searched_again, searched_leave, searched_done}
 use Rattle.patch.specs.declared.patch.Patch.{Patch}

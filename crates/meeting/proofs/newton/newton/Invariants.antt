@@ -1,6 +1,6 @@
 -- The loop's invariant: the rounds left give what all of them give.
 use mathlib.Core.Path.{◌≡◌}
-use Rattle.meeting.specs.Newton.{most_rounds, rounds_from}
+use Rattle.meeting.specs.Newton.{rounds_from}
 use Rattle.meeting.proofs.newton.newton.Given as goal
 
 abbrev pub invariant-loop-i : goal.invariant-loop-i

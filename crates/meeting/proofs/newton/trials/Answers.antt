@@ -1,6 +1,5 @@
 -- The loop's invariant: the trials left give what all of them give.
 use mathlib.Core.Path.{refl, sym}
-use native.Mathlib.Omega.{arith}
 use Rattle.loops.proofs.Choice.{pick_taken, pick_left}
 use Rattle.loops.proofs.Loop.{searched_again, searched_leave, searched_done}
 use Rattle.meeting.specs.Newton.{most_trials, trials_of}

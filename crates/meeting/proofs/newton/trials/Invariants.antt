@@ -1,6 +1,6 @@
 -- The loop's invariant: the trials left give what all of them give.
 use mathlib.Core.Path.{◌≡◌}
-use Rattle.meeting.specs.Newton.{most_trials, trials_from, trials_of}
+use Rattle.meeting.specs.Newton.{trials_from, trials_of}
 use Rattle.meeting.proofs.newton.trials.Given as goal
 
 abbrev pub invariant-loop : goal.invariant-loop
