@@ -31,6 +31,7 @@ fn put(text: &ArrayString<LINE>, line: &mut [u8; LINE]) -> usize
 }
 
 // Puts the line of a trace at the front of the lent bytes; how many it has.
+// Kept (1): the line has the code in decimal.
 pub fn trace_line(count: u64, start: u64, code: u64, line: &mut [u8; LINE]) -> usize
     ensures { (result ≡ length (trace_line count start code)) × (line.new ≡ written (trace_line count start code) line.old) }
 {

@@ -88,6 +88,7 @@ pub fn geomcore_point(surface: &[u8], u: f64, v: f64, out: &mut [f64]) -> u64
 }
 
 // The word of a line: 2^8 times the code, 2^16 times the start's index and 2^32 times the count.
+// Kept (1): a word holds the code's number.
 fn line_word(count: usize, start: usize, code: usize) -> u64
     requires { (count < 4294967296) × ((start < 65536) × (code < 256)) }
     ensures { result ≡ code * 256 + start * 65536 + count * 4294967296 }
@@ -152,6 +153,7 @@ fn checked_word(answer: Result<(), Refusal>) -> u64
 }
 
 // What C claims of a trace.
+// Kept (1, 5): C hands over three numbers of any size; here they become one claim.
 fn claim(count: u64, start: u64, code: u64) -> Claim
     ensures { result ≡ record { count = count; start = start; code = code } }
 {
@@ -171,9 +173,7 @@ pub fn geomcore_check(job: &[u8], buffer: &[f64], count: u64, start: u64, code: 
         Err(refusal) => refusal.number(),
         Ok(asked) => {
             let claim = claim(count, start, code);
-            checked_word(geomcore::call::check(
-                asked.a, asked.b, asked.tol, buffer, claim,
-            ))
+            checked_word(geomcore::call::check(asked.a, asked.b, asked.tol, buffer, claim))
         }
     }
 }

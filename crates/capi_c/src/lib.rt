@@ -67,6 +67,7 @@ pub extern "C" fn geomcore_trace(job: &[u8], buffer: &mut [f64]) -> u64
 
 // Checks a claimed trace against the surfaces and tolerance of a job file; its guess and cap aren't read. The word is 0 exactly when the
 // bytes are a job and the trace passes.
+// Kept (1, 5): C hands the claim over one by one.
 #[unsafe(no_mangle)]
 pub extern "C" fn geomcore_check(
     job: &[u8],
@@ -95,6 +96,7 @@ pub extern "C" fn geomcore_crossing(
 }
 
 // Writes the first `count` points of the buffer, seven numbers each, to the front of the lent bytes as a trace file of version 1.
+// Kept (1, 5): C hands the claim over one by one.
 #[unsafe(no_mangle)]
 pub extern "C" fn geomcore_write_v1(
     buffer: &[f64],

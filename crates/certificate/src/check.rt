@@ -18,6 +18,7 @@ fn finite_point(p: Point3D) -> bool
     number::is_finite(p.x) && (number::is_finite(p.y) && number::is_finite(p.z))
 }
 
+// Kept (4): in bits, while a derived == would be numeric.
 fn same_point(p: Point3D, q: Point3D) -> bool
     ensures { result ≡ same_point p q }
 {

@@ -27,6 +27,7 @@ pub fn count_fits(count: usize) -> bool
 }
 
 // Whether the list has a whole group for each of `count` points. No product is formed, so that no count is too large.
+// Kept (6): the count is the caller's claim, which is tested here.
 pub fn holds(numbers: &[f64], count: usize) -> bool
     ensures { result ≡ holds_of width numbers.now count }
 {

@@ -22,6 +22,7 @@ impl Closing {
     }
 
     // The closing of a code; a code above 2, which 12 and 20 refuse, counts as 2.
+    // Kept (1): 12 and 20 ask of a code, a count and a start together; a `TryFrom` would refuse the code a second time, by no number.
     pub fn of_code(code: usize) -> Closing
         ensures { result ≡ closing_at code }
     {
@@ -41,8 +42,8 @@ pub struct Traced {
     pub closing: Closing,
 }
 
-// What is claimed of a trace handed in: how many points it has, which of them is the start, and its closing code. They may be any numbers:
-// 12 and 20 refuse what no trace has.
+// What is claimed of a trace handed in: how many points it has, which of them is the start, and its closing code.
+// Kept (1): they may be any numbers, and 12 and 20 refuse what no trace has.
 #[derive(Clone, Copy)]
 pub struct Claim {
     pub count: usize,

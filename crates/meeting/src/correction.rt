@@ -10,6 +10,7 @@ use solve::{SOLVER_TOL, Singular, solve_square};
 
 // What is solved beside S1(u1, v1) = S2(u2, v2): nothing (the minimum-norm correction), a plane through a point with a normal, or a
 // parameter held at its value.
+// Kept (1): the first case is a solve of its own, not the want of one.
 #[derive(Clone, Copy)]
 pub enum Target {
     Free,
@@ -125,6 +126,7 @@ fn plane_correction(
 const FREE: [[usize; 3]; 4] = [[1, 2, 3], [0, 2, 3], [0, 1, 3], [0, 1, 2]];
 
 // Those of a pin; one above 3 counts as 3.
+// Kept (1): `land` takes any number for a pin, and document 01 has "a table of four rows of three" for "each pin, 0 to 3".
 fn free(pin: usize) -> [usize; 3]
     ensures row { result ≡ free_of pin }
     ensures below { (i : ℕ) → slice_index result i < 4 }

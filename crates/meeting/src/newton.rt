@@ -90,6 +90,7 @@ fn newton(a: Patch, b: Patch, target: Target, x: Parameters, confusion: f64) -> 
     ensures { result ≡ newton_of a b target x confusion }
 {
     let mut s = residual_at(a, b, target, x);
+    // Kept (3): the round's number is what a refusal hands on.
     for i in 0..MOST_ROUNDS {
         match newton_round(a, b, target, confusion, i, s) {
             ControlFlow::Break(met) => {

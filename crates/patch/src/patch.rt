@@ -15,6 +15,8 @@ pub struct Window {
 }
 
 // A surface with the windows and turn marks of its two parameters.
+// Kept (5): A and B, the tolerance, the parameters and u, v go beside one another, as in the Rust's signatures; a pair was tried
+// (docs/DECISIONS.md).
 #[derive(Clone, Copy)]
 pub struct Patch {
     pub surface: Surface,

@@ -80,6 +80,7 @@ pub(crate) fn half(
 {
     let mut w = start.walker(dir);
     let mut h = first_stride(tol.confusion);
+    // Kept (3): the number of steps walked is how many points the half has, which `step` asks.
     for count in 0..n {
         match step(a, b, tol, dir, start.p, count, w, h) {
             Stepped::Onward { next, length } => {
