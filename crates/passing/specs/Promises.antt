@@ -1,6 +1,6 @@
 -- What the public calls promise, on one page. A contract is one of the records at the end: equations settle the answer and every lent output from the
 -- inputs alone, refused calls too; the promises stand beside them by name. The number of an answer is 0 where nothing is refused. Definitions only.
-use Rattle.std.specs.Prelude.{◌≡◌, true, List, ℕ, ◌*◌, ◌≤◌, ◌<◌, leb, length, take, Float, Ok, Err, None}
+use Rattle.std.specs.Prelude.{◌≡◌, true, List, ℕ, ◌*◌, ◌≤◌, ◌<◌, leb, length, take, Float, Ok, Err}
 use Rattle.loops.specs.Loop.{pick}
 use Rattle.loops.specs.Over.{written}
 use Rattle.wire.specs.Wire.{AllBytes}
