@@ -3,34 +3,24 @@ use mathlib.Core.Path.{◌≡◌, refl, sym, ap, ◌∙◌, subst}
 use Prim.Native.Nat.{ℕ, zero, suc, ◌+◌, ◌-◌, ◌*◌, ◌/◌, ◌%◌, ◌^◌, ◌<◌}
 use native.Mathlib.Nat.{add_assoc, zero-add}
 use native.Mathlib.Omega.{arith}
-use mathlib.Core.Bool.{Bool, true, false, not, cond}
+use mathlib.Core.Bool.{Bool, true, false, not, cond, false≢true}
 use lib.IntN.{ℤ}
 use lib.Dec.{T, eqb, eqb→eq}
-use lib.Ieee.{Float, nan, inf, fin, binary64, up, down, size, to_bits, of_bits, fits, is_nan, nan_bits, ne}
+use lib.Ieee.{Float, nan, inf, fin, binary64, up, down, size, to_bits, of_bits, fits, is_nan, nan_bits}
 use lib.Ieee.Bits.{of_bits-to_bits, to_bits-lt, nan_bits_is, is_true}
 use lib.Ieee.Fits.{eq→eqb}
-use lib.Ieee.Compare.{differs_from_itself, nan_differs}
 use Rattle.number.specs.Helpers.{abs_of, same_bits}
 
--- ---- `x != x` is the test for a NaN
+-- ---- the two ways that the test for a NaN can go
 
-pub ne_self : (x : Float) → ne x x ≡ is_nan x
+pub is_nan_lem : (x : Float) → is_nan x ≡ true → x ≡ nan
 unfolding is_nan
-ne_self nan = nan_differs
-ne_self (inf true) = unfold ne in refl
-ne_self (inf false) = unfold ne in refl
-ne_self (fin s m e) = go (ne (fin s m e) (fin s m e)) refl
-  where
-    go : (b : Bool) → ne (fin s m e) (fin s m e) ≡ b → b ≡ false
-    go true h = ap is_nan (sym (differs_from_itself (fin s m e) (subst T (sym h) tt)))
-    go false h = refl
+is_nan_lem nan h = refl
+is_nan_lem (inf s) h = absurd (false≢true h)
+is_nan_lem (fin s m e) h = absurd (false≢true h)
 
--- the two ways that the test can go
-pub is_nan_lem : (x : Float) → ne x x ≡ true → x ≡ nan
-is_nan_lem x h = differs_from_itself x (subst T (sym h) tt)
-
-pub no_nan : (x : Float) → ne x x ≡ false → T (not (is_nan x))
-no_nan x h = subst (λ (b : Bool). T (not b)) (sym h ∙ ne_self x) tt
+pub no_nan : (x : Float) → is_nan x ≡ false → T (not (is_nan x))
+no_nan x h = subst (λ (b : Bool). T (not b)) (sym h) tt
 
 -- ---- the absolute value
 

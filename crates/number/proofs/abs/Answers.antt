@@ -13,19 +13,16 @@ use Rattle.number.proofs.abs.Goals.{Start}
 held : (c : Start) → T (fits binary64 c.args.x)
 held c = subst T (sym c.well_formed.0.1) tt
 
-pub float_to_bits-result : goal.float_to_bits-result
-float_to_bits-result c = no_nan c.args.x c.if-x.false
-
 pub float_from_bits-result : goal.float_from_bits-result
 float_from_bits-result c =
     let x = c.args.x in
-    subst (λ (k : ℕ). T (not (nan_bits binary64 k))) (sym (and_mask (to_bits binary64 x) 63)) (abs_no_nan x (held (goal.at.float_from_bits-result c).Start) (no_nan x c.if-x.false))
+    subst (λ (k : ℕ). T (not (nan_bits binary64 k))) (sym (and_mask (to_bits binary64 x) 63)) (abs_no_nan x (held (goal.at.float_from_bits-result c).Start) (no_nan x (sym c.is_nan.ensures.value ∙ c.if-is_nan.false)))
 
-pub returns-then-x : goal.returns-then-x
+pub returns-then-is_nan : goal.returns-then-is_nan
 unfolding abs_of
-returns-then-x c = let e = is_nan_lem c.args.x c.if-x.true in e ∙ sym (ap abs_of e)
+returns-then-is_nan c = let e = is_nan_lem c.args.x (sym c.is_nan.ensures.value ∙ c.if-is_nan.true) in e ∙ sym (ap abs_of e)
 
-pub returns-else-x : goal.returns-else-x
-returns-else-x c =
+pub returns-else-is_nan : goal.returns-else-is_nan
+returns-else-is_nan c =
     let x = c.args.x in
-    ap (of_bits binary64) (and_mask (to_bits binary64 x) 63) ∙ abs_back x (held (goal.at.returns-else-x c).Start) (no_nan x c.if-x.false)
+    ap (of_bits binary64) (and_mask (to_bits binary64 x) 63) ∙ abs_back x (held (goal.at.returns-else-is_nan c).Start) (no_nan x (sym c.is_nan.ensures.value ∙ c.if-is_nan.false))
