@@ -46,7 +46,7 @@ const PIO2_3T: f64 = 8.47842766036889956997e-32;
 fn truncated(x: f64) -> u64
     ensures { result ≡ to_unsigned 31 x }
 {
-    if x != x {
+    if x.is_nan() {
         return 0;
     }
     let bits: u64 = f64::to_bits(x);

@@ -124,7 +124,7 @@ impl Significand {
         let cut = near + TO_25;
         let s = cut - TO_25;
         let rest = (v - s * s) / (s + near) + TO_52;
-        if rest != rest {
+        if rest.is_nan() {
             return None;
         }
         Some(Candidate {
@@ -214,7 +214,7 @@ fn by_digits(a: u64) -> u64
 pub fn sqrt(x: f64) -> f64
     ensures { SqrtGives x result }
 {
-    if x != x {
+    if x.is_nan() {
         return x;
     }
     let bits = f64::to_bits(x);
@@ -224,7 +224,7 @@ pub fn sqrt(x: f64) -> f64
     if exponent + fraction == 0 {
         x
     } else if sign == 1 {
-        0.0 / 0.0
+        f64::NAN
     } else if exponent == 2047 {
         x
     } else {

@@ -6,15 +6,15 @@ use lib.Bits.{bit_and, and_mask}
 use lib.Ieee.{Float, binary64, to_bits, of_bits, fits, div}
 use lib.Ieee.Bits.{to_bits-lt, is_true, is_false}
 use Rattle.sqrt.specs.Sqrt.{sqrt_of, round_root}
-use Rattle.number.proofs.Sign.{is_nan_lem, no_nan}
+use Rattle.number.proofs.Sign.{is_nan_lem}
 use Rattle.sqrt.proofs.SquareRoot.{gives}
 use Rattle.number.proofs.Fields.{at, fields}
 use Rattle.sqrt.proofs.Fields.{zero_field, positive, infinite, negative}
 use Rattle.sqrt.proofs.sqrt.Goals as goal
-use Rattle.sqrt.proofs.sqrt.Goals.{Else-x}
+use Rattle.sqrt.proofs.sqrt.Goals.{Else-is_nan}
 
 -- x, no NaN, and the fields of its pattern
-module _ (c : Else-x) where
+module _ (c : Else-is_nan) where
   abbrev x : Float
   x = c.args.x
 
@@ -51,20 +51,17 @@ module _ (c : Else-x) where
   is_pos : (b / 2 ^ 63 ≡ 1 → ⊥) → x ≡ at false e t
   is_pos h = is ∙ ap (λ (s : Bool). at s e t) (is_false (leb (2 ^ 63) b) (lt→nleb (2 ^ 63) b (omega (arith, in_64))))
 
-pub float_to_bits-bits : goal.float_to_bits-bits
-float_to_bits-bits c = no_nan c.args.x c.if-x.false
-
 -- a NaN
-pub returns-then-x : goal.returns-then-x
+pub returns-then-is_nan : goal.returns-then-is_nan
 unfolding sqrt_of
-returns-then-x c =
-    let e = is_nan_lem c.args.x c.if-x.true in
+returns-then-is_nan c =
+    let e = is_nan_lem c.args.x (sym c.is_nan.ensures.value ∙ c.if-is_nan.true) in
     gives c.args.x _ (subst T (sym c.well_formed.0.1) tt) (e ∙ sym (ap sqrt_of e))
 
 -- a zero
 pub returns-then-exponent-fraction-eq0 : goal.returns-then-exponent-fraction-eq0
 returns-then-exponent-fraction-eq0 c =
-    let d = (goal.at.returns-then-exponent-fraction-eq0 c).Else-x in
+    let d = (goal.at.returns-then-exponent-fraction-eq0 c).Else-is_nan in
     let s = leb (2 ^ 63) (b d) in
     let z : (e d ≡ 0) × (t d ≡ 0) = (omega (arith, c.if-exponent-fraction-eq0.true), omega (arith, c.if-exponent-fraction-eq0.true)) in
     let q : x d ≡ at s 0 0 = is d ∙ ap (λ (y : ℕ). at s y (t d)) z.0 ∙ ap (at s 0) z.1 in
@@ -74,20 +71,20 @@ returns-then-exponent-fraction-eq0 c =
 pub returns-then-sign-eq1 : goal.returns-then-sign-eq1
 unfolding of_bits div
 returns-then-sign-eq1 c =
-    let d = (goal.at.returns-then-sign-eq1 c).Else-x in
+    let d = (goal.at.returns-then-sign-eq1 c).Else-is_nan in
     let n = negative (e d) (t d) (exp_le d) (omega (arith, c.if-exponent-fraction-eq0.false)) in
     gives (x d) _ (held d) (sym (ap sqrt_of (is_neg d c.if-sign-eq1.true) ∙ n))
 
 -- the infinity
 pub returns-then-exponent-eq2047 : goal.returns-then-exponent-eq2047
 returns-then-exponent-eq2047 c =
-    let d = (goal.at.returns-then-exponent-eq2047 c).Else-x in
+    let d = (goal.at.returns-then-exponent-eq2047 c).Else-is_nan in
     let q : x d ≡ at false 2047 (t d) = is_pos d c.if-sign-eq1.false ∙ ap (λ (k : ℕ). at false k (t d)) c.if-exponent-eq2047.true in
     gives (x d) _ (held d) (q ∙ sym (infinite (t d)) ∙ sym (ap sqrt_of q))
 
 -- finite, and above zero
 pub returns-else-exponent-eq2047 : goal.returns-else-exponent-eq2047
 returns-else-exponent-eq2047 c =
-    let d = (goal.at.returns-else-exponent-eq2047 c).Else-x in
+    let d = (goal.at.returns-else-exponent-eq2047 c).Else-is_nan in
     let p = positive (e d) (t d) (omega (arith, exp_le d, c.if-exponent-eq2047.false)) (omega (arith, c.if-exponent-fraction-eq0.false)) in
     gives (x d) _ (held d) (c.root.ensures ∙ ap round_root c.scaled.ensures ∙ sym (ap sqrt_of (is_pos d c.if-sign-eq1.false) ∙ p))

@@ -1,5 +1,5 @@
 -- Its patterns are no NaN's, and a NaN stays one.
-use Rattle.std.proofs.Common.{not, T, arith}
+use Rattle.std.proofs.Common.{not, T, arith, sym, ◌∙◌}
 use Rattle.std.proofs.lemmas.Float.{not_nan_f64_bits}
 use lib.Ieee.{Float, nan, inf, fin, add, sub, mul, div, neg, is_nan}
 use Rattle.number.specs.Operators.{◌⊕◌, ◌⊖◌, ◌⊗◌, ◌⊘◌}
@@ -22,7 +22,4 @@ pub float_from_bits-v : goal.float_from_bits-v
 float_from_bits-v c = not_nan_f64_bits _ (omega arith)
 
 pub float_to_bits-result : goal.float_to_bits-result
-float_to_bits-result c = stays _ _ _ _ _ (no_nan _ c.if-rest.false)
-
-pub float_to_bits-result-2 : goal.float_to_bits-result-2
-float_to_bits-result-2 c = no_nan _ c.if-rest.false
+float_to_bits-result c = stays _ _ _ _ _ (no_nan _ (sym c.is_nan.ensures.value ∙ c.if-is_nan.false))
