@@ -5,7 +5,8 @@
 ghost use Rattle.std.specs.Prelude.{◌≡◌, ◌<◌, get_or};
 ghost use Rattle.std.specs.Float.Ieee.{to_unsigned};
 ghost use Rattle.reduction.specs.Reduction.{npio2hw, rem_pio2, taken_of, medium_of, negated_of};
-ghost use Rattle.reduction.specs.Reduction.{first_difference, next_difference, careful_of, refined_of};
+ghost use Rattle.number.specs.Operators.{◌⊖◌, ◌⊗◌};
+ghost use Rattle.reduction.specs.Reduction.{next_difference, careful_of, refined_of};
 ghost use Rattle.reduction.specs.Near.{near_of};
 
 // The quadrant, n modulo 4, and the angle that is left: y0 with its tail y1.
@@ -42,7 +43,7 @@ const PIO2_3: f64 = 2.02226624871116645580e-21;
 const PIO2_3T: f64 = 8.47842766036889956997e-32;
 
 // The whole part, as C's cast to int has it, of a number that is not negative; 0 of a negative one.
-// Kept (4): with std's `saturating_f64_to_u64` in its place (tried) sine and cosine beyond 3pi/4 take 4% longer.
+// Kept (4): over std's `saturating_f64_to_u64` sine and cosine beyond 3pi/4 take 4% longer than with this one (docs/parts/fdlibm.md).
 fn truncated(x: f64) -> u64
     ensures { result ≡ to_unsigned 31 x }
 {
@@ -74,14 +75,14 @@ fn taken(d: Difference, quadrant: u64) -> Reduction
     }
 }
 
-// t less n pi/2 with 33 digits of pi/2 taken exactly, the rest in w.
-// Kept (2): not `next_difference` from a difference of t and 0, since the C's first step takes back no rounding.
-fn first_difference(t: f64, n: f64) -> Difference
-    ensures { result ≡ first_difference t n }
+// t less n times a part of pi/2 that holds 33 digits, with n times what comes after them in w.
+// Kept (2): not `next_difference` from a difference of t and 0, since the C takes back no rounding here.
+fn plain_difference(t: f64, n: f64, part: f64, rest: f64) -> Difference
+    ensures { (result.r ≡ t ⊖ n ⊗ part) × (result.w ≡ n ⊗ rest) }
 {
     Difference {
-        r: t - n * PIO2_1,
-        w: n * PIO2_1T,
+        r: t - n * part,
+        w: n * rest,
     }
 }
 
@@ -89,15 +90,11 @@ fn first_difference(t: f64, n: f64) -> Difference
 fn near(x: f64, n: f64, quadrant: u64, ix: u64) -> Reduction
     ensures { result ≡ near_of x n quadrant ix }
 {
-    let d = first_difference(x, n);
+    let d = plain_difference(x, n, PIO2_1, PIO2_1T);
     if ix != 0x3ff9_21fb {
         return taken(d, quadrant);
     }
-    let second = Difference {
-        r: d.r - n * PIO2_2,
-        w: n * PIO2_2T,
-    };
-    taken(second, quadrant)
+    taken(plain_difference(d.r, n, PIO2_2, PIO2_2T), quadrant)
 }
 
 // 33 digits more: part holds them, and rest what comes after them.
@@ -154,7 +151,7 @@ fn medium(t: f64, ix: u64) -> Reduction
 {
     let whole = truncated(t * INVPIO2 + 0.5);
     let n = whole as f64;
-    let d = refined(first_difference(t, n), whole, n, ix);
+    let d = refined(plain_difference(t, n, PIO2_1, PIO2_1T), whole, n, ix);
     taken(d, whole & 3)
 }
 

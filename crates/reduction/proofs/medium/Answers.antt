@@ -5,7 +5,7 @@ use lib.Dec.{T, le→leb, lit≤}
 use lib.IntN.{pos}
 use lib.Ieee.{Float, binary64, in_float, to_unsigned}
 use Rattle.reduction.proofs.Truncation.{cut_most}
-use Rattle.reduction.specs.Reduction.{medium_of}
+use Rattle.reduction.specs.Reduction.{medium_of, first_difference}
 use Rattle.reduction.proofs.medium.Goals as goal
 
 -- a number below 2 ^ 31 is a binary64 exactly
@@ -17,5 +17,5 @@ pub int_to_float-n : goal.int_to_float-n
 int_to_float-n c = exact _ _ c.truncated-whole.ensures
 
 pub returns : goal.returns
-unfolding medium_of
-returns c = rw (c.taken.ensures, c.refined-d.ensures, c.first_difference.ensures, c.truncated-whole.ensures)
+unfolding medium_of first_difference
+returns c = rw (c.taken.ensures, c.refined-d.ensures, c.plain_difference.ensures.0, c.plain_difference.ensures.1, c.truncated-whole.ensures)
