@@ -2,7 +2,8 @@
 ghost use Rattle.std.specs.Prelude.{◌≡◌, ◌^◌, ◌<◌};
 ghost use Rattle.arctangent.specs.Arctangent.{series_of, far_of, from_known, folded_of, by_signs, on_axis, upright, far_along, quotient_of, around_of, angle_of};
 
-// Kept (6): the entries of the C's atanhi[], atanlo[] and aT[] are constants of their names: each index is a number, and no loop goes over them.
+// Kept (2): each constant is the C's, with its own value.
+// Kept (6): those of atanhi[], atanlo[] and aT[] stand alone, since an array read at fixed indices alone is no plainer.
 const ATANHI_0: f64 = 4.63647609000806093515e-01;
 
 const ATANHI_1: f64 = 7.85398163397448278999e-01;
@@ -67,10 +68,11 @@ pub(crate) fn atan_series(x: f64) -> f64
 }
 
 // From 2^66 on: a right angle, or a NaN.
+// Kept (1): the sign is the number that `by_signs` goes by.
 pub(crate) fn atan_far(x: f64, sign: u64) -> f64
     ensures { result ≡ far_of x sign }
 {
-    if x != x {
+    if x.is_nan() {
         x + x
     } else if sign == 0 {
         ATANHI_3 + ATANLO_3

@@ -31,10 +31,10 @@ pub fn atan(x: f64) -> f64
 pub fn atan2(y: f64, x: f64) -> f64
     ensures { result ≡ atan2_of y x }
 {
-    if x != x {
+    if x.is_nan() {
         return x + y;
     }
-    if y != y {
+    if y.is_nan() {
         return x + y;
     }
     if number::to_bits(x) == 0x3ff0_0000_0000_0000 {

@@ -55,8 +55,8 @@ fn both(x: f64) -> SinCos
     }
     let Some(a) = reduction::rem_pio2(x) else {
         return SinCos {
-            sin: 0.0 / 0.0,
-            cos: 0.0 / 0.0,
+            sin: f64::NAN,
+            cos: f64::NAN,
         };
     };
     both_at(a)
