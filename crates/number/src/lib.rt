@@ -11,9 +11,6 @@ mod words;
 
 pub use words::{exponent_field, high_word, magnitude_bits, sign_bit};
 
-// The smallest normal number, the Rust's `f64::MIN_POSITIVE`.
-pub const MIN_POSITIVE: f64 = 2.2250738585072014e-308;
-
 // 2^20, the greatest magnitude that refusals 1, 17 and 18 let through.
 const GREATEST: f64 = 1048576.0;
 

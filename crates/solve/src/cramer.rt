@@ -8,7 +8,7 @@ ghost use Rattle.solve.specs.Cramer.{gives_up, determinant_of, scale2_of, cramer
 pub fn gives_up(pivot: f64, tol: f64, scale: f64) -> bool
     ensures { result ≡ gives_up pivot tol scale }
 {
-    number::abs(pivot) <= tol * number::max(scale, number::MIN_POSITIVE)
+    number::abs(pivot) <= tol * number::max(scale, f64::MIN_POSITIVE)
 }
 
 // a d - b c.

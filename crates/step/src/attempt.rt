@@ -120,7 +120,7 @@ fn onward(
             x: y,
             p: q,
             t: ty,
-            curvature: turned / number::max(chord, number::MIN_POSITIVE),
+            curvature: turned / number::max(chord, f64::MIN_POSITIVE),
         };
         Some(Stride::Inner { next, length: h })
     } else {

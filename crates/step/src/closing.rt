@@ -14,7 +14,7 @@ fn along(start: Point3D, p: Point3D, q: Point3D) -> f64
     ensures { result ≡ along_of start p q }
 {
     let chord = q - p;
-    (start - p).dot(chord) / number::max(chord.dot(chord), number::MIN_POSITIVE)
+    (start - p).dot(chord) / number::max(chord.dot(chord), f64::MIN_POSITIVE)
 }
 
 // Whether the chord from p to q passes the start closely enough.
@@ -41,7 +41,7 @@ pub(crate) fn next_stride(confusion: f64, h: f64, curvature: f64) -> f64
     ensures { result ≡ next_stride confusion h curvature }
 {
     let square = SAGITTA * (CHORD_DEVIATION * confusion)
-        / number::max(curvature, number::MIN_POSITIVE);
+        / number::max(curvature, f64::MIN_POSITIVE);
     let longest = number::min(2.0 * h, H_MAX);
     if sqrt::at_most(square, longest) {
         number::min(longest, sqrt::sqrt(square))

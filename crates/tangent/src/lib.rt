@@ -25,7 +25,7 @@ fn normal(patch: Patch, u: f64, v: f64) -> Vector3D
 fn moderate(x: f64) -> bool
     ensures { result ≡ true → T (min_positive ≤? x) × T (x ≤? bits 0x4130_0000_0000_0000) }
 {
-    number::MIN_POSITIVE <= x && x <= MOST
+    f64::MIN_POSITIVE <= x && x <= MOST
 }
 
 // Whether the length is at most angular times the product of the roots of a and b, or times the smallest normal number if that is greater.
@@ -43,7 +43,7 @@ fn parallel(a: f64, b: f64, length: f64, angular: f64) -> bool
         }
     }
     let scale = sqrt::sqrt(a) * sqrt::sqrt(b);
-    length <= angular * number::max(scale, number::MIN_POSITIVE)
+    length <= angular * number::max(scale, f64::MIN_POSITIVE)
 }
 
 // The unit vector along na x nb, unless that is too short beside |na||nb|.
