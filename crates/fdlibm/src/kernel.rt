@@ -5,6 +5,7 @@ ghost use Rattle.fdlibm.specs.Kernel.{kernel_sin, kernel_cos, qx_of};
 
 use crate::SinCos;
 
+// Kept (2): each constant is the C's, with its own value.
 const S1: f64 = -1.66666666666666324348e-01;
 
 const S2: f64 = 8.33333333332248946124e-03;
@@ -73,6 +74,7 @@ fn kernel_cos(x: f64, y: f64, ix: u64) -> f64
 }
 
 // Both, after one test of the high word.
+// Kept (1): the flag goes on to the sine, as the C's iy.
 pub(crate) fn kernels(x: f64, y: f64, tail: bool) -> SinCos
     ensures { (result.sin ≡ kernel_sin x y tail) × (result.cos ≡ kernel_cos x y) }
 {

@@ -63,7 +63,8 @@ fn both(x: f64) -> SinCos
 }
 
 // The sine, with the cosine put into `cos`.
-// Kept (5): a struct of the two would be read as one piece just after it was stored as two, which waits (docs/SPEED.md).
+// Kept (5): a struct of the two is stored as two numbers and read back as one piece, which waits: with it a check took 6% longer, and a
+// trace 5% (docs/SPEED.md of commit 1228f430, "What was changed").
 pub fn sin_cos(x: f64, cos: &mut f64) -> f64
     ensures { (result ≡ sin_of x) × (cos.new ≡ cos_of x) }
 {

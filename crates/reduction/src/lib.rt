@@ -28,6 +28,7 @@ struct Difference {
 // The greatest high word of an angle in reach.
 const REACH: u64 = 0x4139_21fb;
 
+// Kept (2): each constant is the C's, with its own value.
 const INVPIO2: f64 = 6.36619772367581382433e-01;
 
 const PIO2_1: f64 = 1.57079632673412561417e+00;

@@ -16,6 +16,7 @@ ghost use Rattle.number.specs.Units.{units_in_one};
 const TO_25: f64 = 201326591.99999997;
 
 // 1.5 + 2 ^ -25: the last bits of a sum with it hold the other summand in units of 2 ^ -52, and 2 ^ 27 more, so that it may be negative.
+// Kept (2): the two round to different units, so each has its own value.
 const TO_52: f64 = 1.5000000298023224;
 
 // 2 ^ 52: the leading digit of a significand, above the fraction field, and the unit of the exponent field.
@@ -211,6 +212,7 @@ fn by_digits(a: u64) -> u64
 }
 
 // The square root: of -0 it is -0, and of any other negative number a NaN.
+// Kept (4): not std's `f64::sqrt`: a rule has the root split into its fields and rounded (docs/RULES.md), and here it is.
 pub fn sqrt(x: f64) -> f64
     ensures { SqrtGives x result }
 {
