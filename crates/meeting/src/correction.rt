@@ -32,9 +32,8 @@ fn offset(target: Target, p: Point3D) -> f64
     ensures { result ≡ offset_of target p }
 {
     match target {
-        Target::Free => 0.0,
         Target::Plane { origin, normal } => (p - origin).dot(normal),
-        Target::Pin(_) => 0.0,
+        Target::Free | Target::Pin(_) => 0.0,
     }
 }
 
@@ -189,8 +188,7 @@ pub(crate) fn shifted(target: Target, x: Parameters, d: Parameters, scale: f64) 
         v2: x.v2 + scale * d.v2,
     };
     match target {
-        Target::Free => y,
-        Target::Plane { .. } => y,
+        Target::Free | Target::Plane { .. } => y,
         Target::Pin(pin) => with_parameter(y, pin, parameter(x, pin)),
     }
 }

@@ -1,13 +1,14 @@
+use Rattle.std.proofs.Common.{◌≡◌, inl, inr}
+use Rattle.meeting.specs.declared.correction.Target.TheVariants.{Plane}
 use Rattle.meeting.specs.Correction.{shifted_of}
 use Rattle.meeting.proofs.correction.shifted.Goals as goal
 
 pub returns-in-Free : goal.returns-in-Free
 unfolding shifted_of
-returns-in-Free c = rw c.in-Free.is
-
-pub returns-in-Plane : goal.returns-in-Plane
-unfolding shifted_of
-returns-in-Plane c = rw c.in-Plane.is
+returns-in-Free c = elim c.in-Free.is [
+  | inl e ↦ rw e
+  | inr e ↦ let plane : c.args.target ≡ Plane e.0 e.1 = e.2 in rw plane
+]
 
 pub returns-in-Pin : goal.returns-in-Pin
 unfolding shifted_of

@@ -1,19 +1,24 @@
-use borrow.Author.Tests.{eq-eqb, ne_eqb}
+use borrow.Author.Tests.{ne_eqb}
+use Rattle.std.proofs.Common.{◌≡◌, arith}
 use Rattle.meeting.specs.Correction.{parameter_of}
 use Rattle.meeting.proofs.parameters.parameter.Goals as goal
 
-pub returns-then-k-eq0 : goal.returns-then-k-eq0
+pub returns-in-0 : goal.returns-in-0
 unfolding parameter_of
-returns-then-k-eq0 c = rw (eq-eqb _ _ c.if-k-eq0.true)
+returns-in-0 c = rw c.in-0.is
 
-pub returns-then-k-eq1 : goal.returns-then-k-eq1
+pub returns-in-1 : goal.returns-in-1
 unfolding parameter_of
-returns-then-k-eq1 c = rw (eq-eqb _ _ c.if-k-eq1.true, ne_eqb _ _ c.if-k-eq0.false)
+returns-in-1 c = rw c.in-1.is
 
-pub returns-then-k-eq2 : goal.returns-then-k-eq2
+pub returns-in-2 : goal.returns-in-2
 unfolding parameter_of
-returns-then-k-eq2 c = rw (eq-eqb _ _ c.if-k-eq2.true, ne_eqb _ _ c.if-k-eq1.false, ne_eqb _ _ c.if-k-eq0.false)
+returns-in-2 c = rw c.in-2.is
 
-pub returns : goal.returns
+pub returns-in_default : goal.returns-in_default
 unfolding parameter_of
-returns c = rw (ne_eqb _ _ c.if-k-eq2.false, ne_eqb _ _ c.if-k-eq1.false, ne_eqb _ _ c.if-k-eq0.false)
+returns-in_default c =
+    let p : c.args.k ≡ 0 → ⊥ = λ e. omega arith in
+    let q : c.args.k ≡ 1 → ⊥ = λ e. omega arith in
+    let r : c.args.k ≡ 2 → ⊥ = λ e. omega arith in
+    rw (ne_eqb _ _ p, ne_eqb _ _ q, ne_eqb _ _ r)
