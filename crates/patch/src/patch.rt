@@ -1,5 +1,5 @@
 ghost use Rattle.std.specs.Prelude.{◌≡◌};
-ghost use Rattle.patch.specs.Patch.{vector_fit, frame_fit, one_fits, both_fit, both_positive, cone_fits, numbers_fit, sizes_fit, window_fit};
+ghost use Rattle.patch.specs.Patch.{vector_fit, frame_fit, both_positive, cone_fits, numbers_fit, sizes_fit, window_fit};
 ghost use Rattle.patch.specs.Patch.{u_is_angle, v_is_angle, mark_fit, fitness_of, window_holds, inside_of, bounded_of, within_bounds};
 
 use analytic::Surface;
@@ -15,8 +15,8 @@ pub struct Window {
 }
 
 // A surface with the windows and turn marks of its two parameters.
-// Kept (5): A and B, the tolerance, the parameters and u, v go beside one another, as in the Rust's signatures; a pair was tried
-// (docs/DECISIONS.md).
+// Kept (5): A and B, the tolerance and the parameters go beside one another, as in the Rust's `meet`, `land`, `tangent`, `predict`, `leaving`
+// and `trace`; what stands between these hands the same on. A pair was tried (docs/DECISIONS.md).
 #[derive(Clone, Copy)]
 pub struct Patch {
     pub surface: Surface,
@@ -33,6 +33,7 @@ pub struct Parameters {
     pub v2: f64,
 }
 
+// Kept (2): a method beside `Point3D::is_fit` would stand in another crate for this one caller; points are asked in more places.
 fn vector_fit(d: Vector3D) -> bool
     ensures { result ≡ vector_fit d }
 {
@@ -43,20 +44,6 @@ fn frame_fit(f: Frame3D) -> bool
     ensures { result ≡ frame_fit f }
 {
     f.origin.is_fit() && (vector_fit(f.x) && (vector_fit(f.y) && vector_fit(f.z)))
-}
-
-// Two sizes beside a frame.
-fn both_fit(f: Frame3D, a: f64, b: f64) -> bool
-    ensures { result ≡ both_fit f a b }
-{
-    frame_fit(f) && (number::number_fit(a) && number::number_fit(b))
-}
-
-// One size beside a frame.
-fn one_fits(f: Frame3D, a: f64) -> bool
-    ensures { result ≡ one_fits f a }
-{
-    frame_fit(f) && number::number_fit(a)
 }
 
 fn both_positive(a: f64, b: f64) -> bool
@@ -80,10 +67,10 @@ fn numbers_fit(surface: Surface) -> bool
 {
     match surface {
         Surface::Plane(f) => frame_fit(f),
-        Surface::Cylinder(f, r) => one_fits(f, r),
-        Surface::Cone(f, r, a) => both_fit(f, r, a),
-        Surface::Sphere(f, r) => one_fits(f, r),
-        Surface::Torus(f, maj, min) => both_fit(f, maj, min),
+        Surface::Cylinder(f, r) | Surface::Sphere(f, r) => frame_fit(f) && number::number_fit(r),
+        Surface::Cone(f, a, b) | Surface::Torus(f, a, b) => {
+            frame_fit(f) && (number::number_fit(a) && number::number_fit(b))
+        }
     }
 }
 
@@ -93,9 +80,8 @@ fn sizes_fit(surface: Surface) -> bool
 {
     match surface {
         Surface::Plane(_) => true,
-        Surface::Cylinder(_, r) => 0.0 < r,
+        Surface::Cylinder(_, r) | Surface::Sphere(_, r) => 0.0 < r,
         Surface::Cone(_, r, a) => cone_fits(r, a),
-        Surface::Sphere(_, r) => 0.0 < r,
         Surface::Torus(_, maj, min) => both_positive(maj, min),
     }
 }
@@ -104,26 +90,14 @@ fn sizes_fit(surface: Surface) -> bool
 fn u_is_angle(surface: Surface) -> bool
     ensures { result ≡ u_is_angle surface }
 {
-    match surface {
-        Surface::Plane(_) => false,
-        Surface::Cylinder(_, _) => true,
-        Surface::Cone(_, _, _) => true,
-        Surface::Sphere(_, _) => true,
-        Surface::Torus(_, _, _) => true,
-    }
+    !matches!(surface, Surface::Plane(_))
 }
 
 // Whether v is an angle with a period.
 fn v_is_angle(surface: Surface) -> bool
     ensures { result ≡ v_is_angle surface }
 {
-    match surface {
-        Surface::Plane(_) => false,
-        Surface::Cylinder(_, _) => false,
-        Surface::Cone(_, _, _) => false,
-        Surface::Sphere(_, _) => false,
-        Surface::Torus(_, _, _) => true,
-    }
+    matches!(surface, Surface::Torus(_, _, _))
 }
 
 // A mark stands only on an angle.
