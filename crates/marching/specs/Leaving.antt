@@ -10,7 +10,7 @@ use Rattle.marching.specs.declared.leaving.First.{First}
 
 -- the exit of parameter k over a bound, at a fraction of the move
 abbrev pub exit_at : ℕ → Float → Float → First
-exit_at k bound fraction = record { index = k; bound = bound; fraction = fraction }
+exit_at k bound fraction = record { exit = record { index = k; bound = bound }; fraction = fraction }
 
 -- "the least fraction wins, the lower index on a tie; a NaN one stays if found first"
 unfoldable pub lesser_of : Option First → ℕ → Float → Float → Option First
@@ -35,7 +35,7 @@ first_exit a b x y =
 
 -- index and bound, without the fraction
 abbrev pub exit_of : First → Exit
-exit_of f = record { index = f.index; bound = f.bound }
+exit_of f = f.exit
 
 -- `leaving` of the move from x to y
 unfoldable pub leaving_of : Patch → Patch → Parameters → Parameters → Option Exit

@@ -14,25 +14,16 @@ pub struct Exit {
 // The exit found so far, with the fraction of the move at which it lies.
 #[derive(Clone, Copy)]
 struct First {
-    index: usize,
-    bound: f64,
+    exit: Exit,
     fraction: f64,
 }
 
 // The lesser of the exit so far and another; the one so far on a tie, and also where either fraction is a NaN.
-fn lesser(first: Option<First>, index: usize, bound: f64, fraction: f64) -> Option<First>
-    ensures { result ≡ lesser_of first index bound fraction }
+fn lesser(first: Option<First>, other: First) -> Option<First>
+    ensures { result ≡ lesser_of first other.exit.index other.exit.bound other.fraction }
 {
-    let other = Some(First {
-        index,
-        bound,
-        fraction,
-    });
-    let Some(found) = first else {
-        return other;
-    };
-    if fraction < found.fraction {
-        other
+    if first.is_none_or(|found| other.fraction < found.fraction) {
+        Some(other)
     } else {
         first
     }
@@ -45,15 +36,16 @@ fn consider(first: Option<First>, window: Window, k: usize, x: f64, y: f64) -> O
     if window.turn {
         return first;
     }
-    if window.high < y {
-        let bound = window.high;
-        return lesser(first, k, bound, (bound - x) / (y - x));
-    }
-    if y < window.low {
-        let bound = window.low;
-        return lesser(first, k, bound, (bound - x) / (y - x));
-    }
-    first
+    let bound = if window.high < y {
+        window.high
+    } else if y < window.low {
+        window.low
+    } else {
+        return first;
+    };
+    let exit = Exit { index: k, bound };
+    let fraction = (bound - x) / (y - x);
+    lesser(first, First { exit, fraction })
 }
 
 // The first exit of the four parameters in turn.
@@ -70,8 +62,5 @@ fn first_exit(a: Patch, b: Patch, x: Parameters, y: Parameters) -> Option<First>
 pub fn leaving(a: Patch, b: Patch, x: Parameters, y: Parameters) -> Option<Exit>
     ensures { result ≡ leaving_of a b x y }
 {
-    first_exit(a, b, x, y).map(|f| Exit {
-        index: f.index,
-        bound: f.bound,
-    })
+    first_exit(a, b, x, y).map(|first| first.exit)
 }
