@@ -1,4 +1,5 @@
 // One of the four parameters by its index: u1, v1, u2, v2; an index above 3 counts as 3.
+// Kept (4): the Rust's `[f64; 4]` is a struct here, whose parts all but pins and their corrections call by name.
 ghost use Rattle.std.specs.Prelude.{◌≡◌};
 ghost use Rattle.meeting.specs.Correction.{parameter_of, with_parameter};
 

@@ -33,14 +33,8 @@ fn moderate(x: f64) -> bool
 fn parallel(a: f64, b: f64, length: f64, angular: f64) -> bool
     ensures { result ≡ (length ≤? angular ⊗ max_of (sqrt_of a ⊗ sqrt_of b) min_positive) }
 {
-    if moderate(a) {
-        if moderate(b) {
-            if moderate(angular) {
-                if angular * MOST < length {
-                    return false;
-                }
-            }
-        }
+    if moderate(a) && moderate(b) && moderate(angular) && angular * MOST < length {
+        return false;
     }
     let scale = sqrt::sqrt(a) * sqrt::sqrt(b);
     length <= angular * number::max(scale, f64::MIN_POSITIVE)
