@@ -2,8 +2,8 @@
 ghost use Rattle.std.specs.Prelude.{◌≡◌};
 ghost use Rattle.step.specs.Attempt.{kept_of, landing_kept, turn_of, near_curve, smooth_of, accepted_of, onward_of, inner_of, landed_of, attempt_of};
 
+use crate::closing::chord_deviation;
 use geometry::point::LONGEST_CHORD;
-use geometry::tolerance::CHORD_DEVIATION;
 use geometry::{Point3D, Tolerance, Vector3D};
 use marching::leaving::leaving;
 use marching::predict::predict;
@@ -19,6 +19,8 @@ const CURVATURE_GROWTH: f64 = 4.0;
 
 // Where a half stands: the parameters and A's point of the last point kept, the direction in which it goes on, and the curvature of the
 // last step (0 before the first).
+// Kept (5): the surfaces, the tolerance, dir and the stride go beside it: a struct that holds the surfaces is slower (tried: `Start` of walk).
+// Kept (1): dir is the Rust's 1.0 or -1.0, by which a direction is multiplied.
 #[derive(Clone, Copy)]
 pub struct Walker {
     pub x: Parameters,
@@ -83,7 +85,7 @@ fn turn(t: Vector3D, ty: Vector3D) -> f64
 fn near_curve(confusion: f64, chord: f64, turned: f64) -> bool
     ensures { result ≡ near_curve confusion chord turned }
 {
-    chord * turned <= 32.0 * (CHORD_DEVIATION * confusion)
+    chord * turned <= 32.0 * chord_deviation(confusion)
 }
 
 // Whether the step stays on this branch: it turns by at most 0.05, or 4 times the last curvature times the chord.

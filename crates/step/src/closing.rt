@@ -1,5 +1,6 @@
 // When a half has come round, and how long a stride may be.
 ghost use Rattle.std.specs.Prelude.{◌≡◌};
+ghost use Rattle.step.specs.Attempt.{chord_deviation};
 ghost use Rattle.step.specs.Closing.{along_of, closes_of, first_stride, next_stride};
 
 use crate::shorten::H_MAX;
@@ -8,6 +9,13 @@ use geometry::tolerance::CHORD_DEVIATION;
 
 // A chord of length h deviates from its curve by h * h * curvature / 8.
 const SAGITTA: f64 = 8.0;
+
+// How far the chord of a step may stray from the curve.
+pub(crate) fn chord_deviation(confusion: f64) -> f64
+    ensures { result ≡ chord_deviation confusion }
+{
+    CHORD_DEVIATION * confusion
+}
 
 // How far along the chord from p to q the start lies.
 fn along(start: Point3D, p: Point3D, q: Point3D) -> f64
@@ -25,14 +33,14 @@ pub(crate) fn closes(confusion: f64, start: Point3D, p: Point3D, q: Point3D) -> 
     0.0 <= s
         && (s <= 1.0
             && (p + (q - p) * s).distance(start)
-                <= 4.0 * (CHORD_DEVIATION * confusion) + 10.0 * confusion)
+                <= 4.0 * chord_deviation(confusion) + 10.0 * confusion)
 }
 
 // The length that a half tries first.
 pub fn first_stride(confusion: f64) -> f64
     ensures { result ≡ first_stride confusion }
 {
-    number::min(sqrt::sqrt(SAGITTA * (CHORD_DEVIATION * confusion)), H_MAX)
+    number::min(sqrt::sqrt(SAGITTA * chord_deviation(confusion)), H_MAX)
 }
 
 // The length to try after a stride of length h: twice that, at most 0.1, and short enough for the curvature. No root is taken where the
@@ -40,7 +48,7 @@ pub fn first_stride(confusion: f64) -> f64
 pub(crate) fn next_stride(confusion: f64, h: f64, curvature: f64) -> f64
     ensures { result ≡ next_stride confusion h curvature }
 {
-    let square = SAGITTA * (CHORD_DEVIATION * confusion)
+    let square = SAGITTA * chord_deviation(confusion)
         / number::max(curvature, f64::MIN_POSITIVE);
     let longest = number::min(2.0 * h, H_MAX);
     if sqrt::at_most(square, longest) {

@@ -13,7 +13,7 @@ use patch::{Parameters, Patch};
 #[derive(Clone, Copy)]
 pub enum Stepped {
     Onward { next: Walker, length: f64 },
-    Closed(bool),
+    Closed { removed: bool },
     Edge { y: Parameters, q: Point3D },
     Ended,
 }
@@ -48,7 +48,8 @@ fn inner_step(
     ensures { result ≡ inner_step confusion start held p next h }
 {
     if came_round(confusion, start, held, p, next.p) {
-        Stepped::Closed(p.distance(start) < 0.1 * h)
+        let removed = p.distance(start) < 0.1 * h;
+        Stepped::Closed { removed }
     } else {
         let length = next_stride(confusion, h, next.curvature);
         Stepped::Onward { next, length }

@@ -29,10 +29,10 @@ longest_number a = (le_numbers _ longest_stride (min_right a longest_stride tent
 
 pub returns-then-at_most : goal.returns-then-at_most
 unfolding next_stride
-returns-then-at_most c = rw (c.min.ensures, c.sqrt.ensures.answer, c.min-longest.ensures, c.max.ensures)
+returns-then-at_most c = rw (c.min.ensures, c.sqrt.ensures.answer, c.min-longest.ensures, c.max.ensures, c.chord_deviation.ensures)
 
 pub returns-else-at_most : goal.returns-else-at_most
 unfolding next_stride
 returns-else-at_most c =
-    rw (← c.max.ensures, ← c.min-longest.ensures)
+    rw (← c.max.ensures, ← c.min-longest.ensures, ← c.chord_deviation.ensures)
     (left_alone _ _ (rw c.min-longest.ensures (longest_number _)) (sym c.at_most.ensures ∙ c.if-at_most.false))
