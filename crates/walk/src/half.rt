@@ -38,6 +38,7 @@ impl Start {
 }
 
 // How many points a half holds, and whether it ended on the start.
+// Kept (1): closed or not, and below whether the last point was removed, are questions of yes or no, not kinds.
 #[derive(Clone, Copy)]
 pub(crate) struct Reached {
     pub count: usize,
@@ -65,6 +66,7 @@ fn left_of(count: usize, removed: bool) -> usize
 }
 
 // The points of a half from the front of `out` on, in the order walked: at most n steps from the start.
+// Kept (6): n is the step cap; the slice may have room for more.
 pub(crate) fn half(
     out: &mut [f64],
     a: Patch,
@@ -88,7 +90,7 @@ pub(crate) fn half(
                 w = next;
                 h = length;
             }
-            Stepped::Closed(removed) => {
+            Stepped::Closed { removed } => {
                 let left = left_of(count, removed);
                 put(&mut *out, WIDTH * left, row_for(start.p, start.x));
                 return Reached {

@@ -9,7 +9,8 @@ use groups::{Row, WIDTH};
 use patch::Parameters;
 
 // A point's numbers, from index `at` on.
-// Kept (3): for `copy_from_slice(&row.numbers())` (tried) the numbers are laid out in memory first, which takes 17 instructions more a point.
+// Kept (4): for `copy_from_slice(&row.numbers())` (tried) the numbers are laid out in memory first: 17 instructions more a point, at each step.
+// Kept (6): the place is cut from the buffer here, and not by each of six callers.
 pub(crate) fn put(out: &mut [f64], at: usize, row: Row)
     requires { at + width ≤ length out.old }
     ensures { out.new ≡ placed out.old at row }
@@ -25,6 +26,7 @@ pub(crate) fn put(out: &mut [f64], at: usize, row: Row)
 }
 
 // The numbers of a point of surface A and its parameters.
+// Kept (4): a `From<(Point3D, Parameters)>` is no plainer: each caller would write a pair and the type that comes of it.
 pub(crate) fn row_for(q: Point3D, x: Parameters) -> Row
     ensures { result ≡ row_for q x }
 {

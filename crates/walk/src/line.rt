@@ -53,6 +53,7 @@ fn backward_closing(closed: bool) -> Closing
 }
 
 // The line through the start.
+// Kept (6): n is the step cap of each half; the slice has room for both.
 pub(crate) fn line(
     points: &mut [f64],
     a: Patch,

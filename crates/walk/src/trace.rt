@@ -51,6 +51,8 @@ fn call_fitness(
 }
 
 // What is answered where no walk begins: the meeting's refusal. A meeting alone is one point and no line.
+// Kept (1): a `match` on the meeting would drop the arm that cannot come, but document 01 has "let Met::At(seed) = meet(..) else return
+// refusal" at this place.
 fn unwalked(met: Met) -> Result<Traced, Refusal>
     ensures { result ≡ unwalked_of met }
 {
