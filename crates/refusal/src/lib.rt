@@ -61,10 +61,8 @@ fn of_point(number: u64, index: u64) -> Numbers
     ensures { result ≡ of_point number index }
 {
     Numbers {
-        number,
         index,
-        round: 0,
-        column: 0,
+        ..alone(number)
     }
 }
 
@@ -73,10 +71,8 @@ fn in_round(number: u64, round: u64) -> Numbers
     ensures { result ≡ in_round number round }
 {
     Numbers {
-        number,
-        index: 0,
         round,
-        column: 0,
+        ..alone(number)
     }
 }
 
@@ -85,10 +81,8 @@ fn in_column(number: u64, round: u64, column: u64) -> Numbers
     ensures { result ≡ in_column number round column }
 {
     Numbers {
-        number,
-        index: 0,
-        round,
         column,
+        ..in_round(number, round)
     }
 }
 

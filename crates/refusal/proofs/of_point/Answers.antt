@@ -1,5 +1,4 @@
-use mathlib.Core.Path.{refl}
 use Rattle.refusal.proofs.of_point.Goals as goal
 
 pub returns : goal.returns
-returns c = refl
+returns c = rw c.alone.ensures
