@@ -1,13 +1,16 @@
 -- What the point's and the crossing's words say, from what the calls below them answer.
 use Rattle.std.specs.Prelude.{Ok, Err}
-use mathlib.Core.Path.{◌≡◌}
-use mathlib.Core.List.{List}
-use Prim.Native.Nat.{ℕ, ◌≤◌}
-use lib.ListN.{length}
-use lib.Ieee.{Float}
-use borrow.Author.Tests.{le-ltb}
+use mathlib.Core.Path.{◌≡◌, refl}
+use mathlib.Core.List.{List, [], ◌∷◌, ◌++◌}
+use Prim.Native.Nat.{ℕ, ◌+◌, ◌≤◌, ◌<◌}
+use native.Mathlib.Omega.{arith}
+use lib.ListN.{length, take, drop, get_or}
+use lib.Ieee.{Float, nan}
+use borrow.Author.Tests.{le-ltb, lt-ltb}
+use Rattle.std.proofs.lemmas.List.{get_or-take}
 use Rattle.number.specs.Operators.{bits}
 use Rattle.refusal.specs.declared.Refusal.{Refusal}
+use Rattle.refusal.specs.declared.Refusal.TheVariants.{Lent}
 use Rattle.refusal.specs.Refusal.{number_of}
 use Rattle.geometry.specs.declared.point.Point3D.{Point3D}
 use Rattle.patch.specs.declared.patch.Patch.{Patch}
@@ -16,17 +19,40 @@ use Rattle.patch.specs.Located.{located_of}
 use Rattle.boxes.specs.Crossing.{Crossed}
 use Rattle.boxes.specs.Crossing.{crossing_of}
 use Rattle.capi.specs.Answer.{answered}
-use Rattle.capi.specs.Point.{put3, point_on}
+use Rattle.job.specs.File.{surface_file}
+use Rattle.capi.specs.Point.{put3, point_on, point_answer}
 use Rattle.capi.specs.Crossing.{crossed_word, corner_at, crossing_answer}
 
-module _ (patch : Patch) (u v : Float) (t : List Float) (h : 3 ≤ length t) {l : Located} (e : l ≡ located_of patch u v) where
-  pub on_refused : {r : Refusal} {w : ℕ} → l ≡ Err r → w ≡ number_of r → answered w t ≡ point_on patch u v t
-  unfolding point_on
-  on_refused f g = rw (le-ltb _ _ h, ← e, f, ← g)
+-- three numbers put down at the front
+put3_front : (t : List Float) (x y z : Float) → 3 ≤ length t → put3 t x y z ≡ (x ∷ y ∷ z ∷ []) ++ drop 3 t
+unfolding put3
+put3_front [] x y z h = absurd (omega (arith, h))
+put3_front (a ∷ []) x y z h = absurd (omega (arith, h))
+put3_front (a ∷ b ∷ []) x y z h = absurd (omega (arith, h))
+put3_front (a ∷ b ∷ c ∷ t) x y z h = refl
 
-  pub on_located : {p : Point3D} {after : List Float} → l ≡ Ok p → after ≡ put3 t p.x p.y p.z → answered 0 after ≡ point_on patch u v t
-  unfolding point_on
-  on_located f g = rw (le-ltb _ _ h, ← e, f, g)
+module _ (bytes : List ℕ) (u v : Float) (t : List Float) where
+  pub point_unread : {r : Refusal} → surface_file bytes ≡ Err r → answered (number_of r) t ≡ point_answer bytes u v t
+  unfolding point_answer
+  point_unread e = rw e
+
+  module _ {patch : Patch} (e : surface_file bytes ≡ Ok patch) where
+    pub point_short : length t < 3 → answered (number_of Lent) t ≡ point_answer bytes u v t
+    unfolding point_answer point_on
+    point_short h = rw (e, lt-ltb _ _ h)
+
+    module _ (h : 3 ≤ length t) {l : Located} (located : l ≡ located_of patch u v) where
+      pub point_refused : {r : Refusal} → l ≡ Err r → answered (number_of r) t ≡ point_answer bytes u v t
+      unfolding point_answer point_on
+      point_refused f = rw (e, le-ltb _ _ h, ← located, f)
+
+      pub point_located : {p : Point3D} → l ≡ Ok p → answered 0 ((p.x ∷ p.y ∷ p.z ∷ []) ++ drop 3 t) ≡ point_answer bytes u v t
+      unfolding point_answer point_on
+      point_located f = rw (e, le-ltb _ _ h, ← located, f, put3_front t _ _ _ h)
+
+-- three of the first six numbers are those of the list
+pub corner_taken : (l : List Float) (at : ℕ) → at + 3 ≤ 6 → corner_at (take 6 l) at ≡ corner_at l at
+corner_taken l at h = rw (get_or-take 6 l at nan (omega arith), get_or-take 6 l (at + 1) nan (omega arith), get_or-take 6 l (at + 2) nan (omega arith))
 
 pub crossing_word : (confusion angular : Float) (l : List Float) (count : ℕ) (corners : List Float) → 6 ≤ length corners → {lo hi : Point3D} {x : Crossed} {w : ℕ}
     → lo ≡ corner_at corners 0 → hi ≡ corner_at corners 3

@@ -3,13 +3,14 @@
 //! The static library `capi_c` exports them to C.
 #![tactic(auto)]
 
-ghost use Rattle.std.specs.Prelude.{◌≡◌, ◌+◌, ◌*◌, ◌≤◌, ◌<◌, length};
+ghost use Rattle.std.specs.Prelude.{◌≡◌, ◌+◌, ◌*◌, ◌≤◌, ◌<◌, [], ◌∷◌};
 ghost use Rattle.capi.specs.Answer.{answered};
-ghost use Rattle.refusal.specs.Verdict.{index_in};
+ghost use Rattle.groups.specs.Traced.{code_of};
+ghost use Rattle.refusal.specs.Verdict.{refusal_of, index_in};
 ghost use Rattle.capi.specs.Check.{checked_word, CheckWord};
 ghost use Rattle.capi.specs.Crossing.{crossed_word, corner_at, crossing_answer};
 ghost use Rattle.capi.specs.File.{written_word, WriteWord, ReadWord};
-ghost use Rattle.capi.specs.Point.{put3, point_on, point_answer};
+ghost use Rattle.capi.specs.Point.{point_answer};
 ghost use Rattle.capi.specs.Trace.{traced_word, Bounded, TraceWord};
 ghost use Rattle.arctangent.specs.Arctangent.{atan2_of};
 ghost use Rattle.fdlibm.specs.Sine.{sin_of, cos_of};
@@ -19,7 +20,6 @@ ghost use Rattle.trace_file.specs.Write.{bytes_of};
 use boxes::Aabb;
 use geometry::{Point3D, Tolerance};
 use groups::{Claim, Traced};
-use patch::Patch;
 use refusal::Refusal;
 
 // The square root, correctly rounded.
@@ -50,29 +50,33 @@ pub fn geomcore_atan2(y: f64, x: f64) -> f64
     arctangent::atan2(y, x)
 }
 
-// Puts three numbers at the front of `out`.
-fn put(out: &mut [f64], x: f64, y: f64, z: f64)
-    requires { 3 ≤ length out.old }
-    ensures { out.new ≡ put3 out.old x y z }
+// Puts a point's coordinates down.
+fn put(out: &mut [f64; 3], p: Point3D)
+    ensures { out.new ≡ p.x ∷ p.y ∷ p.z ∷ [] }
 {
-    out[0] = x;
-    out[1] = y;
-    out[2] = z;
+    *out = [p.x, p.y, p.z];
 }
 
-// The point of a surface that is read already.
-fn point_on(patch: Patch, u: f64, v: f64, out: &mut [f64]) -> u64
-    ensures { answered result out.new ≡ point_on patch u v out.old }
+// Puts the point of a surface, read from its bytes, into the first three numbers of `out`.
+fn point(surface: &[u8], u: f64, v: f64, out: &mut [f64]) -> Result<(), Refusal>
+    ensures { answered (refusal_of result) out.new ≡ point_answer surface.now u v out.old }
 {
-    if out.len() < 3 {
-        return Refusal::Lent.number();
-    }
-    match geomcore::call::point(patch, u, v) {
+    let patch = job::file::read_surface(surface)?;
+    let Some(out) = out.first_chunk_mut::<3>() else {
+        return Err(Refusal::Lent);
+    };
+    let p = geomcore::call::point(patch, u, v)?;
+    put(out, p);
+    Ok(())
+}
+
+// The word of an answer that says nothing else: 0, or the refusal's number.
+fn word(answer: Result<(), Refusal>) -> u64
+    ensures { result ≡ refusal_of answer }
+{
+    match answer {
+        Ok(()) => 0,
         Err(refusal) => refusal.number(),
-        Ok(p) => {
-            put(out, p.x, p.y, p.z);
-            0
-        }
     }
 }
 
@@ -81,19 +85,16 @@ fn point_on(patch: Patch, u: f64, v: f64, out: &mut [f64]) -> u64
 pub fn geomcore_point(surface: &[u8], u: f64, v: f64, out: &mut [f64]) -> u64
     ensures { answered result out.new ≡ point_answer surface.now u v out.old }
 {
-    match job::file::read_surface(surface) {
-        Err(refusal) => refusal.number(),
-        Ok(patch) => point_on(patch, u, v, out),
-    }
+    word(point(surface, u, v, out))
 }
 
 // The word of a line: 2^8 times the code, 2^16 times the start's index and 2^32 times the count.
-// Kept (1): a word holds the code's number.
-fn line_word(count: usize, start: usize, code: usize) -> u64
-    requires { (count < 4294967296) × ((start < 65536) × (code < 256)) }
-    ensures { result ≡ code * 256 + start * 65536 + count * 4294967296 }
+fn line_word(line: Traced) -> u64
+    requires { (line.count < 4294967296) × (line.start < 65536) }
+    ensures { result ≡ code_of line.closing * 256 + line.start * 65536 + line.count * 4294967296 }
 {
-    (code as u64) * 256 + (start as u64) * 65536 + (count as u64) * 4294967296
+    let code = line.closing.code();
+    (code as u64) * 256 + (line.start as u64) * 65536 + (line.count as u64) * 4294967296
 }
 
 // The answer's word: the refusal's number, 2^8 times its round and 2^16 times its column, or the line's word. Each part has room in its
@@ -103,12 +104,21 @@ fn traced_word(answer: Result<Traced, Refusal>) -> u64
     ensures { result ≡ traced_word answer }
 {
     match answer {
-        Ok(t) => line_word(t.count, t.start, t.closing.code()),
+        Ok(line) => line_word(line),
         Err(refusal) => {
             let n = refusal.numbers();
             n.number + n.round * 256 + n.column * 65536
         }
     }
+}
+
+// Walks the line that a job file asks for.
+fn trace(job: &[u8], buffer: &mut [f64]) -> Result<Traced, Refusal>
+    ensures bounded { Bounded result }
+    ensures word { TraceWord job.now buffer.old buffer.new (traced_word result) }
+{
+    let asked = job::file::read(job)?;
+    geomcore::call::trace(asked.a, asked.b, asked.tol, asked.guess, asked.cap, buffer)
 }
 
 // Walks the line that a job file asks for over the lent numbers, which may be any. A low byte of 0 means that the line in the buffer passes
@@ -117,17 +127,7 @@ fn traced_word(answer: Result<Traced, Refusal>) -> u64
 pub fn geomcore_trace(job: &[u8], buffer: &mut [f64]) -> u64
     ensures { TraceWord job.now buffer.old buffer.new result }
 {
-    match job::file::read(job) {
-        Err(refusal) => refusal.number(),
-        Ok(asked) => traced_word(geomcore::call::trace(
-            asked.a,
-            asked.b,
-            asked.tol,
-            asked.guess,
-            asked.cap,
-            buffer,
-        )),
-    }
+    traced_word(trace(job, buffer))
 }
 
 // The word of a refusal: its number, and 2^32 times the index of the point that it names.
@@ -164,18 +164,21 @@ fn claim(count: u64, start: u64, code: u64) -> Claim
     }
 }
 
+// Checks a claimed trace against a job file.
+fn check(job: &[u8], buffer: &[f64], claim: Claim) -> Result<(), Refusal>
+    ensures index { index_in result < 4294967296 }
+    ensures word { CheckWord job.now buffer.now claim.count claim.start claim.code (checked_word result) }
+{
+    let asked = job::file::read(job)?;
+    geomcore::call::check(asked.a, asked.b, asked.tol, buffer, claim)
+}
+
 // Checks a claimed trace against the surfaces and tolerance of a job file; its guess and cap aren't read. The word is 0 exactly when the
 // bytes are a job and the trace passes.
 pub fn geomcore_check(job: &[u8], buffer: &[f64], count: u64, start: u64, code: u64) -> u64
     ensures { CheckWord job.now buffer.now count start code result }
 {
-    match job::file::read(job) {
-        Err(refusal) => refusal.number(),
-        Ok(asked) => {
-            let claim = claim(count, start, code);
-            checked_word(geomcore::call::check(asked.a, asked.b, asked.tol, buffer, claim))
-        }
-    }
+    checked_word(check(job, buffer, claim(count, start, code)))
 }
 
 // The answer's word: the refusal's number, and 2^8 where the trace is crossed.
@@ -190,8 +193,8 @@ fn crossed_word(answer: Result<bool, Refusal>) -> u64
 }
 
 // Three of the six numbers of a box.
-fn corner(corners: &[f64], at: usize) -> Point3D
-    requires { at + 3 ≤ length corners.now }
+fn corner(corners: &[f64; 6], at: usize) -> Point3D
+    requires { at + 3 ≤ 6 }
     ensures { result ≡ corner_at corners.now at }
 {
     Point3D::new(corners[at], corners[at + 1], corners[at + 2])
@@ -207,9 +210,9 @@ pub fn geomcore_crossing(
 ) -> u64
     ensures { result ≡ crossing_answer confusion angular buffer.now count corners.now }
 {
-    if corners.len() < 6 {
+    let Some(corners) = corners.first_chunk::<6>() else {
         return Refusal::Lent.number();
-    }
+    };
     let tol = Tolerance {
         confusion,
         angular,

@@ -13,7 +13,7 @@ added_small c =
     rw c.numbers-n.ensures (added_told c.in-Err.is c.requires)
 
 pub line_word-requires : goal.line_word-requires
-line_word-requires c = rw c.code.ensures (line_fits c.in-Ok.is c.requires)
+line_word-requires c = line_fits c.in-Ok.is c.requires
 
 pub overflow_mul-result : goal.overflow_mul-result
 overflow_mul-result c = let h = added_small (goal.at.overflow_mul-result c).After-numbers-n in omega (arith, h.0)
@@ -29,7 +29,7 @@ overflow_add-result-in-Err c = let h = added_small (goal.at.overflow_add-result-
 
 pub returns-in-Ok : goal.returns-in-Ok
 unfolding traced_word
-returns-in-Ok c = rw (c.in-Ok.is, ← c.code.ensures) (omega (arith, c.line_word.ensures))
+returns-in-Ok c = rw (c.in-Ok.is) (omega (arith, c.line_word.ensures))
 
 pub returns-in-Err : goal.returns-in-Err
 unfolding traced_word
