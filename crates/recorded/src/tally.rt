@@ -6,7 +6,7 @@ ghost use Rattle.recorded.specs.Tally.{counted_of, said_of};
 use std::fmt;
 
 // Stands for StrictMath's answer where an angle is beyond reach: our sine and cosine are NaN there.
-// Kept (1): a word of the recorded list, and the answers beside it are words too.
+// Kept (1): the list has it among the answers' words, each of which is compared with it once; an `Option` would be made only to be taken apart.
 const BEYOND: u64 = 0x7ff8_0000_0000_0001;
 
 // Every NaN has one pattern.

@@ -42,6 +42,7 @@ pub fn at_most(x: u64, most: usize) -> usize
 }
 
 // Fills the numbers with those of the words, from the first on.
+// Kept (3): a number whose word is not there is promised to be 0; a `zip` with `as_chunks::<8>()` would leave it as it was.
 pub fn load(words: &[u8], numbers: &mut [f64])
     ensures { numbers.new ≡ loaded_of words.now numbers.old }
 {
@@ -51,6 +52,7 @@ pub fn load(words: &[u8], numbers: &mut [f64])
 }
 
 // Whether the bits of some number are not those of its word.
+// Kept (3): a number whose word is not there is compared with 0; a `zip` with `as_chunks::<8>()` would pass over it.
 pub fn differ(words: &[u8], numbers: &[f64]) -> bool
     ensures { result ≡ differ_of words.now numbers.now }
 {

@@ -1,8 +1,9 @@
 //! A kind of list whose answers are compared, and the replay of such a list.
 ghost use Rattle.std.specs.Prelude.{◌≤◌};
 
+use crate::records::for_each_record;
 use recorded::tally::Tally;
-use recorded::words::{RECORD, at_most, next, word};
+use recorded::words::RECORD;
 use std::io;
 use std::io::{Read, Write};
 
@@ -31,23 +32,10 @@ pub trait Compared {
         output: &mut W,
     ) -> io::Result<()> {
         let mut tally = Tally::new();
-        for _ in 0..records {
-            let mut bytes = [0u8; RECORD];
-            if !read::<Self, R>(input, &mut bytes)? {
-                break;
-            }
-            tally = tally.counted(Self::same(&bytes));
-        }
+        for_each_record(records, Self::size(), Self::most(), input, |bytes| {
+            tally = tally.counted(Self::same(bytes));
+            Ok(())
+        })?;
         writeln!(output, "{}: {tally}", Self::NAME)
     }
-}
-
-// The next record. False at the end of the list.
-fn read<K: Compared, R: Read>(input: &mut R, bytes: &mut [u8; RECORD]) -> io::Result<bool> {
-    let start = K::size();
-    if !next(input, &mut bytes[..start])? {
-        return Ok(false);
-    }
-    let end = start + 8 * at_most(word(bytes, 8), K::most());
-    next(input, &mut bytes[start..end])
 }

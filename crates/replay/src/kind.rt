@@ -14,6 +14,7 @@ pub enum Kind {
     Files,
 }
 
+// Kept (1): a number of no kind counts as trace files; the lists stand in this repository, and the program has no answer to another number.
 impl From<u64> for Kind {
     fn from(number: u64) -> Kind {
         match number {

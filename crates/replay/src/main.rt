@@ -10,6 +10,7 @@ mod crossings;
 mod files;
 mod jobs;
 mod kind;
+mod records;
 mod roots;
 mod steps;
 mod strict_math;

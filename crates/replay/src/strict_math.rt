@@ -1,15 +1,15 @@
 //! Answers of Java's StrictMath, which is fdlibm 5.3, made by `tools/StrictMathAnswers.java`: six words, y, x, and the bits of sin(x),
 //! cos(x), atan(x) and atan2(y, x). All NaNs have one pattern, but for the mark of an angle beyond reach, where our sine and cosine are NaN
 //! and StrictMath's are not.
+use crate::records::for_each_record;
 use recorded::tally::Tally;
-use recorded::words::{next, word};
+use recorded::words::{RECORD, word};
 use std::io;
 use std::io::{Read, Write};
 
 const SIZE: usize = 48;
 
 // What is counted of each function.
-// Kept (6): a record counts for each field in a way of its own, and each has a name.
 #[derive(Clone, Copy, Default)]
 struct Tallies {
     sines: Tally,
@@ -21,7 +21,7 @@ struct Tallies {
 
 impl Tallies {
     // All that one record counts for.
-    fn counted(self, bytes: &[u8; SIZE]) -> Tallies {
+    fn counted(self, bytes: &[u8; RECORD]) -> Tallies {
         let y = number::from_bits(word(bytes, 0));
         let x = number::from_bits(word(bytes, 8));
         let sine = fdlibm::sin(x);
@@ -50,15 +50,11 @@ impl Tallies {
 }
 
 // A list of so many records, or as many as there are.
-// Kept (2): the loop of `Compared::replay`, round records of one length; what is done with a record and what stays of it differ.
 pub fn replay<R: Read, W: Write>(records: u64, input: &mut R, output: &mut W) -> io::Result<()> {
     let mut tallies = Tallies::default();
-    for _ in 0..records {
-        let mut bytes = [0u8; SIZE];
-        if !next(input, &mut bytes)? {
-            break;
-        }
-        tallies = tallies.counted(&bytes);
-    }
+    for_each_record(records, SIZE, 0, input, |bytes| {
+        tallies = tallies.counted(bytes);
+        Ok(())
+    })?;
     tallies.written(output)
 }

@@ -2,6 +2,8 @@
 //! how many numbers are lent, the answer's word, 352 bytes of which the first are the job, and the words of the numbers after the call.
 use crate::compared::Compared;
 use recorded::words::{RECORD, at_most, differ, word};
+use std::array;
+use std::num::nearest_usize_to_f64;
 
 pub struct Traces;
 
@@ -12,13 +14,7 @@ const MOST: usize = 185;
 
 // What the buffer holds before the call: -0.5, -1.5, -2.5 and on.
 fn filled() -> [f64; MOST] {
-    let mut buffer = [0.0; MOST];
-    let mut next = -0.5;
-    for x in buffer.iter_mut() {
-        *x = next;
-        next = next - 1.0;
-    }
-    buffer
+    array::from_fn(|k| -0.5 - nearest_usize_to_f64(k))
 }
 
 impl Compared for Traces {
