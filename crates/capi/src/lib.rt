@@ -193,6 +193,7 @@ fn crossed_word(answer: Result<bool, Refusal>) -> u64
 }
 
 // Three of the six numbers of a box.
+// Kept (6): `first_chunk` of what stands from `at` on is an `Option`, and here there is no case for `None`.
 fn corner(corners: &[f64; 6], at: usize) -> Point3D
     requires { at + 3 ≤ 6 }
     ensures { result ≡ corner_at corners.now at }
@@ -210,6 +211,7 @@ pub fn geomcore_crossing(
 ) -> u64
     ensures { result ≡ crossing_answer confusion angular buffer.now count corners.now }
 {
+    // Kept (1): a function that ends in `?` would take the same five arguments for this one refusal.
     let Some(corners) = corners.first_chunk::<6>() else {
         return Refusal::Lent.number();
     };
