@@ -8,6 +8,7 @@ ghost use Rattle.loops.specs.Over.{over};
 ghost use Rattle.wire.specs.Wire.{uint_at, number_at, numbers_from, uint_bytes, number_bytes, numbers_bytes};
 
 // The number of the N bytes from `at` on, the first of which weighs most. Eight are one load (docs/SPEED.md).
+// Kept (3): by std's `from_be_bytes` of a copied array a trace file is read 1.2 times as long.
 pub fn uint<const N: usize>(bytes: &[u8], at: usize) -> u64
     requires there { at + N ≤ length bytes.now }
     requires few { N ≤ 8 }
@@ -46,6 +47,7 @@ pub fn all_finite(bytes: &[u8], at: usize) -> bool
 }
 
 // Fills the numbers with those that stand from `at` on.
+// Kept (3): over `numbers.iter_mut().zip(chunks)` (tried) no invariant can name the numbers, and nothing is known of them afterwards.
 pub fn fill(numbers: &mut [f64], bytes: &[u8], at: usize)
     requires { at + 8 * length numbers.old ≤ length bytes.now }
     ensures { numbers.new ≡ numbers_from bytes.now at (length numbers.old) }
@@ -84,6 +86,7 @@ pub fn put_number(bytes: &mut [u8], at: usize, x: f64)
 }
 
 // Puts the numbers from `at` on, one behind the other.
+// Kept (3): of `as_chunks_mut` std does not say what the bytes are afterwards.
 pub fn put_numbers(bytes: &mut [u8], at: usize, numbers: &[f64])
     requires { at + 8 * length numbers.now ≤ length bytes.old }
     ensures { bytes.new ≡ over bytes.old at (numbers_bytes numbers.now) }
