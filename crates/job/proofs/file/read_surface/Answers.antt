@@ -1,23 +1,16 @@
-use Rattle.std.proofs.Common.{◌≡◌, Err, sym, ◌∙◌, length, rules}
-use borrow.Author.Tests.{le-ltb, lt-ltb, leb-true, leb-false}
-use lib.Dec.{leb}
-use Rattle.refusal.specs.declared.Refusal.TheVariants.{JobFile}
-use Rattle.refusal.proofs.Order.{asked_held, asked_failed}
+use Rattle.std.proofs.Common.{◌∙◌}
+use borrow.Author.Tests.{le-ltb, lt-ltb}
 use Rattle.job.specs.Layout.{surface_bytes}
 use Rattle.job.specs.File.{surface_file}
+use Rattle.job.proofs.Places.{surface_taken}
 use Rattle.job.proofs.file.read_surface.Goals as goal
 
-pub returns-in_err-asked : goal.returns-in_err-asked
+pub returns-in_default : goal.returns-in_default
 unfolding surface_file
-returns-in_err-asked c =
-    let n = length c.args.bytes.now in
-    let e : c.from_residual.result ≡ Err c.in_err-asked.field-0.0 = search rules in
-    let f = asked_failed (leb surface_bytes n) JobFile (sym c.asked.ensures ∙ c.in_err-asked.was) in
-    rw (e, f.1, lt-ltb n surface_bytes (leb-false surface_bytes n f.0))
+returns-in_default c = rw (lt-ltb _ surface_bytes c.in_default.ensures.cases)
 
 pub returns : goal.returns
 unfolding surface_file
 returns c =
-    let n = length c.args.bytes.now in
-    let h = asked_held (leb surface_bytes n) JobFile (sym c.asked.ensures ∙ c.in_ok-asked.was) in
-    rw (le-ltb n surface_bytes (leb-true surface_bytes n h), ← c.surface_at.ensures)
+    let part = c.in-Some.ensures.cases in
+    rw (le-ltb _ surface_bytes part.enough) (c.surface_at.ensures ∙ rw part.same (surface_taken c.args.bytes.now))
