@@ -6,7 +6,7 @@
 ghost use Rattle.std.specs.Prelude.{◌≡◌, ◌+◌, ◌≤◌, length, Float};
 ghost use Rattle.analytic.specs.Kind.{surface_as};
 ghost use Rattle.geometry.specs.declared.frame.Frame3D.{Frame3D};
-ghost use Rattle.probe.specs.Call.{frame_from, surface_from, window_from, patch_from, parameters_from, call_from, put_three, put_parameters};
+ghost use Rattle.probe.specs.Call.{frame_from, surface_from, window_from, patch_from, parameters_from, call_from, put_parameters};
 
 use crate::numbers;
 use analytic::Kind;
@@ -34,6 +34,7 @@ pub fn frame(input: &[f64], at: usize) -> Frame3D
 }
 
 // The kind that a number stands for: each stands for one.
+// Kept (1): a `match` would want a guard for each bound, and a `TryFrom` has none to refuse.
 fn kind(number: f64) -> Kind
     ensures { (f : Frame3D) (a b : Float) → surface_as result f a b ≡ surface_from number f a b }
 {
@@ -56,11 +57,9 @@ fn window(input: &[f64], at: usize) -> Window
     requires { at + 3 ≤ length input.now }
     ensures { result ≡ window_from input.now at }
 {
-    Window {
-        low: input[at],
-        high: input[at + 1],
-        turn: 0.0 < input[at + 2],
-    }
+    let [low, high, mark] = numbers::<3>(input, at);
+    let turn = 0.0 < mark;
+    Window { low, high, turn }
 }
 
 fn patch_at(input: &[f64], at: usize) -> Patch
@@ -78,12 +77,8 @@ pub fn parameters(input: &[f64], at: usize) -> Parameters
     requires { at + 4 ≤ length input.now }
     ensures { result ≡ parameters_from input.now at }
 {
-    Parameters {
-        u1: input[at],
-        v1: input[at + 1],
-        u2: input[at + 2],
-        v2: input[at + 3],
-    }
+    let [u1, v1, u2, v2] = numbers::<4>(input, at);
+    Parameters { u1, v1, u2, v2 }
 }
 
 pub fn read(input: &[f64; 54]) -> Call
@@ -100,21 +95,8 @@ pub fn read(input: &[f64; 54]) -> Call
     Call { a, b, x, tol }
 }
 
-// Writes three numbers from `at` on.
-pub fn put(output: &mut [f64], at: usize, x: f64, y: f64, z: f64)
-    requires { at + 3 ≤ length output.old }
-    ensures { output.new ≡ put_three output.old at x y z }
-{
-    output[at] = x;
-    output[at + 1] = y;
-    output[at + 2] = z;
-}
-
 pub fn put_parameters(output: &mut [f64; 4], x: Parameters)
     ensures { output.new ≡ put_parameters output.old x }
 {
-    output[0] = x.u1;
-    output[1] = x.v1;
-    output[2] = x.u2;
-    output[3] = x.v2;
+    *output = [x.u1, x.v1, x.u2, x.v2];
 }

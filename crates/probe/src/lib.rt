@@ -75,6 +75,7 @@ fn probe_square<const N: usize>(input: &[f64], output: &mut [f64]) -> u64
 }
 
 // The solver of so many unknowns: 2, 3 or 4. Any other number is answered like a slice too short.
+// Kept (1): the number comes from C as it is.
 pub fn probe_solve(size: u64, input: &[f64], output: &mut [f64]) -> u64
     ensures { probed result output.new ≡ probe_of size input.now output.old }
 {

@@ -10,7 +10,7 @@ ghost use Rattle.probe.specs.Probe.{probed};
 ghost use Rattle.probe.specs.Call.{call_from};
 ghost use Rattle.probe.specs.Steps.{probe_tangent, probe_predict, probe_leaving, probe_meet, probe_meet_in_plane, probe_land, probe_step, written_met};
 
-use crate::call::{parameters, put, put_parameters, read};
+use crate::call::{parameters, put_parameters, read};
 use crate::numbers;
 use geometry::{Point3D, Vector3D};
 use meeting::Met;
@@ -22,7 +22,7 @@ fn probe_tangent(input: &[f64; 54], output: &mut [f64; 4]) -> u64
     let c = read(input);
     match tangent::tangent(c.a, c.b, c.x, c.tol) {
         Some(d) => {
-            put(output, 0, d.x, d.y, d.z);
+            output[..3].copy_from_slice(&[d.x, d.y, d.z]);
             1
         }
         None => 0,

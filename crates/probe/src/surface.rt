@@ -5,18 +5,18 @@ ghost use Rattle.std.specs.Prelude.{◌≡◌};
 ghost use Rattle.probe.specs.Probe.{probed};
 ghost use Rattle.probe.specs.Surface.{probe_point, probe_derivatives, probe_surface};
 
-use crate::call::{frame, put};
+use crate::call::frame;
 use analytic::{Kind, Surface};
 
 // 1 and the point's coordinates, or 0 for an output too short.
 fn probe_point(s: Surface, u: f64, v: f64, output: &mut [f64]) -> u64
     ensures { probed result output.new ≡ probe_point s u v output.old }
 {
-    if output.len() < 3 {
+    let Some(front) = output.first_chunk_mut::<3>() else {
         return 0;
-    }
+    };
     let p = s.eval_point(u, v);
-    put(output, 0, p.x, p.y, p.z);
+    *front = [p.x, p.y, p.z];
     1
 }
 
@@ -24,14 +24,11 @@ fn probe_point(s: Surface, u: f64, v: f64, output: &mut [f64]) -> u64
 fn probe_derivatives(s: Surface, u: f64, v: f64, output: &mut [f64]) -> u64
     ensures { probed result output.new ≡ probe_derivatives s u v output.old }
 {
-    if output.len() < 6 {
+    let Some(front) = output.first_chunk_mut::<6>() else {
         return 0;
-    }
+    };
     let d = s.eval_d1(u, v);
-    let by_u = d.u;
-    let by_v = d.v;
-    put(output, 0, by_u.x, by_u.y, by_u.z);
-    put(output, 3, by_v.x, by_v.y, by_v.z);
+    *front = [d.u.x, d.u.y, d.u.z, d.v.x, d.v.y, d.v.z];
     1
 }
 
