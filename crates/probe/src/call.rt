@@ -22,6 +22,7 @@ pub struct Call {
     pub tol: Tolerance,
 }
 
+// Kept (5): std splits a part off as an array by an `Option` of it each time, and no part is missing here.
 pub fn frame(input: &[f64], at: usize) -> Frame3D
     requires { at + 12 ≤ length input.now }
     ensures { result ≡ frame_from input.now at }
