@@ -4,4 +4,5 @@ pub mod Evaluated
 pub mod Exact
 pub mod Index
 pub mod Passed
+pub mod Claimed
 pub mod Finite

@@ -1,7 +1,8 @@
-ghost use Rattle.std.specs.Prelude.{◌≡◌, ◌/◌, ◌<◌, length};
+ghost use Rattle.std.specs.Prelude.{◌≡◌, ◌/◌, ◌<◌, length, Some, None};
+ghost use Rattle.loops.specs.Loop.{pick};
 ghost use Rattle.groups.specs.Groups.{width};
 ghost use Rattle.groups.specs.Row.{row_of};
-ghost use Rattle.groups.specs.Traced.{code_of};
+ghost use Rattle.groups.specs.Traced.{code_of, closing_at};
 ghost use Rattle.certificate.specs.Passes.{closing_end};
 ghost use Rattle.certificate.specs.Check.{is_own, finite_point, same_point, own_of, chord_fits, point_verdict, points_verdict, same_row, closing_so, claim_so, check_of};
 
@@ -105,26 +106,25 @@ fn same_row(p: Row, q: Row) -> bool
     pairs.all(|(x, y)| number::same_bits(*x, *y))
 }
 
-// Whether the trace is closed as the code says: 0 open, 1 forward, 2 backward.
-// Kept (1): the code is the caller's claim, of any size; here 12 tests it.
-fn closing_so(points: &[f64], claim: Claim) -> bool
+// Whether the trace is closed as it claims.
+fn closing_so(points: &[f64], claim: Claim, closing: Closing) -> bool
     requires { 0 < claim.count }
-    ensures { result ≡ closing_so (row_of points.now) claim.count claim.start claim.code }
+    ensures { result ≡ closing_so (row_of points.now) claim.count claim.start (code_of closing) }
 {
     let first = row_of(points, 0);
-    match claim.code {
-        0 => true,
-        1 => claim.start == 0 && same_row(row_of(points, claim.count - 1), first),
-        2 => 2 <= claim.start && same_row(first, row_of(points, claim.start)),
-        _ => false,
+    match closing {
+        Closing::Open => true,
+        Closing::Forward => claim.start == 0 && same_row(row_of(points, claim.count - 1), first),
+        Closing::Backward => 2 <= claim.start && same_row(first, row_of(points, claim.start)),
     }
 }
 
-// What refusal 12 lets through.
-fn claim_so(points: &[f64], claim: Claim) -> bool
-    ensures { result ≡ claim_so (row_of points.now) claim.count claim.start claim.code }
+// The closing claimed, where refusal 12 lets the claim through.
+fn claimed(points: &[f64], claim: Claim) -> Option<Closing>
+    ensures { result ≡ pick (claim_so (row_of points.now) claim.count claim.start claim.code) (Some (closing_at claim.code)) None }
 {
-    groups::count_fits(claim.count) && (claim.start < claim.count && closing_so(points, claim))
+    let closing = claim.closing()?;
+    closing_so(points, claim, closing).then_some(closing)
 }
 
 // Whether the trace claimed, at the head of the list, passes: refusals A's 1 to 4, B's, 5, 8, 12, then point by point 14, 13, 15, 16.
@@ -133,7 +133,9 @@ pub fn check(a: Patch, b: Patch, tol: Tolerance, trace: &[f64], claim: Claim) ->
 {
     patch::pair_fitness(a, b, tol)?;
     asked(groups::holds(trace, claim.count), Refusal::Lent)?;
-    asked(claim_so(trace, claim), Refusal::Claim)?;
-    let end = closing_end(claim.count, Closing::of_code(claim.code));
+    let Some(closing) = claimed(trace, claim) else {
+        return Err(Refusal::Claim);
+    };
+    let end = closing_end(claim.count, closing);
     points_verdict(a, b, tol.confusion, &trace[..WIDTH * claim.count], end)
 }

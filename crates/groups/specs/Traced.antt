@@ -1,10 +1,12 @@
 -- What is answered of a trace in a lent list, and the list with it. Definitions only.
-use Rattle.std.specs.Prelude.{List, ℕ, eqb, Float, Result, Ok, Err}
+use Rattle.std.specs.Prelude.{◌≡◌, ◌<◌, ◌&&◌, List, ℕ, eqb, ltb, leb, Float, Option, Some, None, Result, Ok, Err, MatchResult}
 use Rattle.loops.specs.Loop.{pick}
 use Rattle.refusal.specs.declared.Refusal.{Refusal}
 use Rattle.refusal.specs.Refusal.{number_of}
 use Rattle.refusal.specs.Refusal as refusal
+use Rattle.groups.specs.Groups.{count_fits}
 use Rattle.groups.specs.declared.traced.Closing.{Closing}
+use Rattle.groups.specs.declared.traced.UnknownCode.{UnknownCode}
 use Rattle.groups.specs.declared.traced.Closing.TheVariants.{Open, Forward, Backward}
 use Rattle.groups.specs.declared.traced.Traced.{Traced}
 use Rattle.groups.specs.declared.traced.Claim.{Claim}
@@ -15,9 +17,17 @@ code_of Open = 0
 code_of Forward = 1
 code_of Backward = 2
 
--- the closing of a code; "closing code above 2" is refused, and counts as 2 here
+-- the closing of a code; a "closing code above 2" is refused, and counts as 2 here
 abbrev pub closing_at : ℕ → Closing
 closing_at code = pick (eqb code 0) Open (pick (eqb code 1) Forward Backward)
+
+-- the closing of this code, or an error for a "closing code above 2"
+abbrev pub Decodes : ℕ → Result Closing UnknownCode → Type 0
+Decodes n r = MatchResult r (λ c. code_of c ≡ n) (λ e. 2 < n)
+
+-- the closing claimed, but for a "count outside 4 to 4001, start index not below the count, closing code above 2"
+abbrev pub closing_in : Claim → Option Closing
+closing_in q = pick (count_fits q.count && (ltb q.start q.count && leb q.code 2)) (Some (closing_at q.code)) None
 
 -- what a trace claims of itself: its own count, start and code
 abbrev pub claim_of : Traced → Claim

@@ -1,5 +1,7 @@
 ghost use Rattle.std.specs.Prelude.{◌≡◌};
-ghost use Rattle.groups.specs.Traced.{code_of, closing_at, claim_of};
+ghost use Rattle.groups.specs.Traced.{code_of, Decodes, closing_in, claim_of};
+
+use crate::count_fits;
 
 // How a line ends: open, or come round to its start in its forward or in its backward half.
 #[derive(Clone, Copy)]
@@ -20,16 +22,23 @@ impl Closing {
             Closing::Backward => 2,
         }
     }
+}
 
-    // The closing of a code; a code above 2, which 12 and 20 refuse, counts as 2.
-    // Kept (1): 12 and 20 ask of a code, a count and a start together; a `TryFrom` would refuse the code a second time, by no number.
-    pub fn of_code(code: usize) -> Closing
-        ensures { result ≡ closing_at code }
-    {
+// A number that is no closing's code.
+#[derive(Clone, Copy, PartialEq, Eq)]
+pub struct UnknownCode;
+
+impl TryFrom<usize> for Closing {
+    type Error = UnknownCode;
+
+    ghost try_from_gives = { Decodes };
+
+    fn try_from(code: usize) -> Result<Closing, UnknownCode> {
         match code {
-            0 => Closing::Open,
-            1 => Closing::Forward,
-            _ => Closing::Backward,
+            0 => Ok(Closing::Open),
+            1 => Ok(Closing::Forward),
+            2 => Ok(Closing::Backward),
+            _ => Err(UnknownCode),
         }
     }
 }
@@ -49,6 +58,22 @@ pub struct Claim {
     pub count: usize,
     pub start: usize,
     pub code: usize,
+}
+
+impl Claim {
+    // What 12 and 20 ask alike: the closing that is claimed, where the count is a trace's, the start is one of its points and the code a
+    // closing's.
+    pub fn closing(self) -> Option<Closing>
+        ensures { result ≡ closing_in self }
+    {
+        if !count_fits(self.count) {
+            return None;
+        }
+        if self.count <= self.start {
+            return None;
+        }
+        Closing::try_from(self.code).ok()
+    }
 }
 
 // A trace's own.

@@ -1,6 +1,6 @@
-use Rattle.std.proofs.Common.{◌≡◌, sym, ap, ◌∙◌, rules}
-use Rattle.std.specs.Prelude.{Ok}
-use mathlib.Core.Bool.{true}
+use Rattle.std.proofs.Common.{◌≡◌, refl, sym, ap, ◌∙◌, rules}
+use Rattle.std.specs.Prelude.{Option, Some, None, Ok, Err}
+use mathlib.Core.Bool.{Bool, true, false}
 use mathlib.Core.List.{List}
 use Prim.Native.Nat.{◌*◌, ◌/◌, ◌≤◌}
 use native.Mathlib.Omega.{arith}
@@ -9,10 +9,13 @@ use lib.Seq.{length-take-le}
 use lib.Ieee.{Float}
 use Rattle.refusal.specs.declared.Refusal.TheVariants as refusal
 use Rattle.refusal.specs.Verdict.{Verdict, asked}
-use Rattle.refusal.proofs.Order.{passed_then, refused_then, last_then, asked_as, asked_held}
+use Rattle.refusal.proofs.Order.{passed_then, refused_then, last_then, asked_as, asked_held, held_asked}
 use Rattle.groups.specs.Groups.{width, least_points, most_points, holds_of}
 use Rattle.groups.specs.Row.{row_of}
-use Rattle.groups.specs.Traced.{code_of}
+use Rattle.groups.specs.Traced.{code_of, closing_at}
+use Rattle.groups.specs.declared.traced.Closing.{Closing}
+use Rattle.loops.specs.Loop.{pick}
+use Rattle.certificate.proofs.Claimed.{let_through, stopped_by}
 use Rattle.groups.specs.declared.traced.Claim.{Claim}
 use Rattle.groups.proofs.Closings.{code_back}
 use Rattle.groups.proofs.Groups.{holds_length}
@@ -23,18 +26,28 @@ use Rattle.certificate.proofs.Passed.{claimed, code_so}
 use Rattle.certificate.proofs.check.check.Goals as goal
 
 -- what 8 and 12 let through
-module _ (l : List Float) (q : Claim) {v : Verdict} (p : v ≡ Ok tt) where
-  lent : v ≡ asked (holds_of width l q.count) refusal.Lent → width * q.count ≤ length l
-  lent e = holds_length width l q.count (asked_held (holds_of width l q.count) refusal.Lent (sym e ∙ p))
+module _ (l : List Float) (q : Claim) where
+  lent : {v : Verdict} → v ≡ Ok tt → v ≡ asked (holds_of width l q.count) refusal.Lent → width * q.count ≤ length l
+  lent p e = holds_length width l q.count (asked_held (holds_of width l q.count) refusal.Lent (sym e ∙ p))
 
-  so : v ≡ asked (claim_so (row_of l) q.count q.start q.code) refusal.Claim → claim_so (row_of l) q.count q.start q.code ≡ true
-  so e = asked_held (claim_so (row_of l) q.count q.start q.code) refusal.Claim (sym e ∙ p)
+  abbrev so : Bool
+  so = claim_so (row_of l) q.count q.start q.code
 
-  few : v ≡ asked (claim_so (row_of l) q.count q.start q.code) refusal.Claim → (least_points ≤ q.count) × (q.count ≤ most_points)
-  few e = let n = claimed (row_of l) q.count q.start q.code (so e) in (n.0, n.1)
+  module _ {v : Option Closing} (e : v ≡ pick so (Some (closing_at q.code)) None) where
+    none : v ≡ None → so ≡ false
+    none p = stopped_by so (closing_at q.code) (sym e ∙ p)
 
-  code : v ≡ asked (claim_so (row_of l) q.count q.start q.code) refusal.Claim → q.code ≤ 2
-  code e = code_so (row_of l) q.count q.start q.code (claimed (row_of l) q.count q.start q.code (so e)).3
+    module _ {x : Closing} (p : v ≡ Some x) where
+      held : so ≡ true
+      held = (let_through so (sym e ∙ p)).0
+
+      few : (least_points ≤ q.count) × (q.count ≤ most_points)
+      few = let n = claimed (row_of l) q.count q.start q.code held in (n.0, n.1)
+
+      code : code_of x ≡ q.code
+      code =
+          ap code_of (sym (let_through so (sym e ∙ p)).1)
+          ∙ code_back q.code (code_so (row_of l) q.count q.start q.code (claimed (row_of l) q.count q.start q.code held).3)
 
 pub returns-in_err-pair_fitness : goal.returns-in_err-pair_fitness
 unfolding check_of
@@ -48,19 +61,20 @@ returns-in_err-asked c =
     let e : c.from_residual-in_err-asked.result ≡ c.asked.result = search rules in
     passed_then c.pair_fitness.ensures c.in_ok-pair_fitness.was (e ∙ refused_then _ (asked_as refusal.Lent c.asked.ensures c.holds.ensures) c.in_err-asked.was)
 
-pub returns-in_err-asked-2 : goal.returns-in_err-asked-2
+pub returns-in_default : goal.returns-in_default
 unfolding check_of
-returns-in_err-asked-2 c =
-    let e : c.from_residual-in_err-asked-2.result ≡ c.asked-2.result = search rules in
-    passed_then c.pair_fitness.ensures c.in_ok-pair_fitness.was (passed_then (asked_as refusal.Lent c.asked.ensures c.holds.ensures) c.in_ok-asked.was (e ∙ refused_then _ (asked_as refusal.Claim c.asked-2.ensures c.claim_so.ensures) c.in_err-asked-2.was))
+returns-in_default c =
+    let l = c.args.trace.now in
+    let q = c.args.claim in
+    let n = none l q c.claimed.ensures c.in_default.is in
+    let e : Err refusal.Claim ≡ asked (so l q) refusal.Claim = rw n in
+    passed_then c.pair_fitness.ensures c.in_ok-pair_fitness.was (passed_then (asked_as refusal.Lent c.asked.ensures c.holds.ensures) c.in_ok-asked.was (refused_then _ e refl))
 
 pub closing_end-end-requires : goal.closing_end-end-requires
-closing_end-end-requires c =
-    let n = few c.args.trace.now c.args.claim c.in_ok-asked-2.was (asked_as refusal.Claim c.asked-2.ensures c.claim_so.ensures) in omega (arith, n.0)
+closing_end-end-requires c = let n = few c.args.trace.now c.args.claim c.claimed.ensures c.in-Some.is in omega (arith, n.0)
 
 pub overflow_mul-claim : goal.overflow_mul-claim
-overflow_mul-claim c =
-    let n = few c.args.trace.now c.args.claim c.in_ok-asked-2.was (asked_as refusal.Claim c.asked-2.ensures c.claim_so.ensures) in omega (arith, n.1)
+overflow_mul-claim c = let n = few c.args.trace.now c.args.claim c.claimed.ensures c.in-Some.is in omega (arith, n.1)
 
 pub slice_bounds-points_verdict-end : goal.slice_bounds-points_verdict-end
 slice_bounds-points_verdict-end c =
@@ -73,11 +87,11 @@ returns c =
     let l = g.trace.now in
     let q = g.claim in
     let h = asked_as refusal.Lent c.asked.ensures c.holds.ensures in
-    let k = asked_as refusal.Claim c.asked-2.ensures c.claim_so.ensures in
     let end : c.closing_end-end.result ≡ closing_end q.count q.code =
-    c.closing_end-end.ensures ∙ ap (closing_end q.count) (ap code_of c.of_code.ensures ∙ code_back q.code (code l q c.in_ok-asked-2.was k)) in
+    c.closing_end-end.ensures ∙ ap (closing_end q.count) (code l q c.claimed.ensures c.in-Some.is) in
     let part = take (width * q.count) l in
     let e = c.points_verdict.ensures
     ∙ ap (points_verdict (is_own g.a) g.a g.b g.tol.confusion (row_of part) (length part / width)) end
     ∙ verdict_taken g.a g.b g.tol.confusion l q.count (closing_end q.count q.code) (lent l q c.in_ok-asked.was h) in
-    passed_then c.pair_fitness.ensures c.in_ok-pair_fitness.was (passed_then h c.in_ok-asked.was (passed_then k c.in_ok-asked-2.was (last_then e)))
+    let k : Ok tt ≡ asked (so l q) refusal.Claim = sym (held_asked (so l q) refusal.Claim (held l q c.claimed.ensures c.in-Some.is)) in
+    passed_then c.pair_fitness.ensures c.in_ok-pair_fitness.was (passed_then h c.in_ok-asked.was (passed_then k refl (last_then e)))
