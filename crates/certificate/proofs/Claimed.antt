@@ -12,29 +12,9 @@ use Rattle.groups.specs.declared.traced.Claim.{Claim}
 use Rattle.groups.specs.declared.traced.Closing.{Closing}
 use Rattle.groups.specs.Groups.{count_fits}
 use Rattle.groups.specs.Traced.{code_of, closing_at, closing_in}
-use Rattle.groups.proofs.Closings.{code_back}
+use Rattle.groups.proofs.Closings.{code_back, let_through, stopped_by}
 use Rattle.certificate.specs.Check.{closing_so, claim_so}
 use Rattle.certificate.proofs.Passed.{code_so}
-
-abbrev there : Option Closing → Bool
-there None = false
-there (Some x) = true
-
-abbrev or : Closing → Option Closing → Closing
-or y None = y
-or y (Some x) = x
-
-none_some : {A : Type 0} {x : Closing} → None ≡ Some x → A
-none_some e = absurd (subst T (sym (ap there e)) tt)
-
--- a closing is there only where the test holds, and is the one that the test lets through
-pub let_through : (t : Bool) {y x : Closing} → pick t (Some y) None ≡ Some x → (t ≡ true) × (y ≡ x)
-let_through true {y} e = (refl, ap (or y) e)
-let_through false e = none_some e
-
-pub stopped_by : (t : Bool) (y : Closing) → pick t (Some y) None ≡ None → t ≡ false
-stopped_by true y e = none_some (sym e)
-stopped_by false y e = refl
 
 three : (a b d : Bool) → a && (b && d) ≡ true → (a ≡ true) × (b ≡ true) × (d ≡ true)
 three true true true e = (refl, refl, refl)

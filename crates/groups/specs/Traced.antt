@@ -17,17 +17,21 @@ code_of Open = 0
 code_of Forward = 1
 code_of Backward = 2
 
+-- not "a code above 2"
+abbrev pub greatest_code : ℕ
+greatest_code = 2
+
 -- the closing of a code; a "closing code above 2" is refused, and counts as 2 here
 abbrev pub closing_at : ℕ → Closing
 closing_at code = pick (eqb code 0) Open (pick (eqb code 1) Forward Backward)
 
 -- the closing of this code, or an error for a "closing code above 2"
 abbrev pub Decodes : ℕ → Result Closing UnknownCode → Type 0
-Decodes n r = MatchResult r (λ c. code_of c ≡ n) (λ e. 2 < n)
+Decodes n r = MatchResult r (λ c. code_of c ≡ n) (λ e. greatest_code < n)
 
 -- the closing claimed, but for a "count outside 4 to 4001, start index not below the count, closing code above 2"
 abbrev pub closing_in : Claim → Option Closing
-closing_in q = pick (count_fits q.count && (ltb q.start q.count && leb q.code 2)) (Some (closing_at q.code)) None
+closing_in q = pick (count_fits q.count && (ltb q.start q.count && leb q.code greatest_code)) (Some (closing_at q.code)) None
 
 -- what a trace claims of itself: its own count, start and code
 abbrev pub claim_of : Traced → Claim

@@ -20,9 +20,9 @@ use Rattle.refusal.proofs.Laws.{number_positive}
 use Rattle.refusal.proofs.Order.{first_each, asked_each, Alone}
 use Rattle.groups.proofs.Closings.{code_small}
 use Rattle.groups.proofs.Closings as closings
-use Rattle.groups.specs.Traced.{closing_at, traced, Outcome, outcome, refusal_of, count_of, start_of, round_of, column_of, closing_of}
+use Rattle.groups.specs.Traced.{closing_at, traced, Outcome, outcome, refusal_of, count_of, start_of, round_of, column_of, closing_of, greatest_code}
 use Rattle.groups.specs.Groups.{most_points}
-use Rattle.trace_file.specs.Layout.{numbers_place, greatest_code, most_width}
+use Rattle.trace_file.specs.Layout.{numbers_place, most_width}
 use Rattle.trace_file.specs.File.{file_of, count_in, start_in, code_in, numbers_in, header_of, header_fits, all_finite}
 use Rattle.trace_file.specs.Write.{filed, bytes_of, write_fitness, after_writing, write_of}
 use Rattle.trace_file.specs.Read.{after_reading, read_tests, read_fitness, read_of}

@@ -19,10 +19,10 @@ use Rattle.wire.specs.Wire.{byte_at, uint_at, numbers_from}
 use Rattle.trace_file.proofs.Numbers.{finite_listed}
 use Rattle.groups.specs.Groups.{least_points, most_points, count_fits, holds_of}
 use Rattle.groups.proofs.Groups.{both, count_fits_lem, fits_count, holds_length}
-use Rattle.groups.specs.Traced.{closing_at}
+use Rattle.groups.specs.Traced.{closing_at, greatest_code}
 use Rattle.trace_file.specs.declared.head.Head.{Head}
 use Rattle.trace_file.specs.Head.{head_where}
-use Rattle.trace_file.specs.Layout.{version_place, numbers_place, file_bytes, following, greatest_code}
+use Rattle.trace_file.specs.Layout.{version_place, numbers_place, file_bytes, following}
 use Rattle.trace_file.specs.File.{claim_fits, all_finite, count_in, start_in, code_in, numbers_in, length_agrees, header_fits}
 use Rattle.trace_file.specs.Write.{write_tests, write_fitness}
 use Rattle.trace_file.specs.Read.{read_tests, read_fitness}

@@ -3,7 +3,8 @@ use Rattle.std.specs.Prelude.{Bool, true, ◌&&◌, List, [], ◌∷◌, ◌++�
 use Rattle.std.specs.Float.Ieee.Scale.{finite}
 use Rattle.wire.specs.Wire.{byte_at, uint_at, numbers_from, one_byte, uint_bytes, numbers_bytes}
 use Rattle.groups.specs.Groups.{count_fits}
-use Rattle.trace_file.specs.Layout.{version_place, count_place, start_place, code_place, numbers_place, file_bytes, following, greatest_code}
+use Rattle.groups.specs.Traced.{greatest_code}
+use Rattle.trace_file.specs.Layout.{version_place, count_place, start_place, code_place, numbers_place, file_bytes, following}
 
 -- ---- what 20 lets through in both directions
 

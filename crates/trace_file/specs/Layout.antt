@@ -29,10 +29,6 @@ file_bytes w count = numbers_place + 8 * (w * count)
 abbrev pub following : ℕ → ℕ → ℕ
 following w count = file_bytes w count - version_place
 
--- not "a code above 2"
-abbrev pub greatest_code : ℕ
-greatest_code = 2
-
 -- "version byte 1"
 abbrev pub version1 : ℕ
 version1 = 1

@@ -3,10 +3,7 @@ ghost use Rattle.trace_file.specs.File.{claim_fits};
 ghost use Rattle.trace_file.specs.Head.{head_where};
 
 use groups::{Claim, Closing};
-use refusal::{Refusal, asked};
-
-// The greatest closing code.
-const GREATEST_CODE: usize = 2;
+use refusal::Refusal;
 
 // What a file's head says of its trace, in both directions: only what 20 lets through.
 #[derive(Clone, Copy)]
@@ -16,13 +13,6 @@ pub(crate) struct Head {
     pub(crate) closing: Closing,
 }
 
-// What 20 lets through of a claim.
-fn claim_fits(claim: Claim) -> bool
-    ensures { result ≡ claim_fits claim.count claim.start claim.code }
-{
-    groups::count_fits(claim.count) && (claim.start < claim.count && claim.code <= GREATEST_CODE)
-}
-
 // The head of a claim, or 20.
 impl TryFrom<Claim> for Head {
     type Error = Refusal;
@@ -30,11 +20,13 @@ impl TryFrom<Claim> for Head {
     ghost try_from_gives = { λ claim head. head ≡ head_where (claim_fits claim.count claim.start claim.code) claim.count claim.start claim.code };
 
     fn try_from(claim: Claim) -> Result<Head, Refusal> {
-        asked(claim_fits(claim), Refusal::TraceFile)?;
+        let Some(closing) = claim.closing() else {
+            return Err(Refusal::TraceFile);
+        };
         Ok(Head {
             count: claim.count as u16,
             start: claim.start as u16,
-            closing: Closing::of_code(claim.code),
+            closing,
         })
     }
 }
