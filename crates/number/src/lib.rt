@@ -65,6 +65,7 @@ pub fn max(a: f64, b: f64) -> f64
 }
 
 // The smaller of two numbers, or the one that is no NaN.
+// Kept (4): as `max`.
 pub fn min(a: f64, b: f64) -> f64
     ensures { result ≡ min_of a b }
 {
