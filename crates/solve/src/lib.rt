@@ -61,7 +61,7 @@ fn greater(held: Held, next: Held) -> Held
 }
 
 // The row, from col down, of the first entry of greatest magnitude in column col.
-// Kept (3): (d) a row's number is what is sought: over the rows the loop has to count them too, and to skip those above.
+// Kept (3): a row's number is what is sought: over the rows the loop has to count them too, and to skip those above.
 fn pivot<const N: usize>(m: &[[f64; N]; N], col: usize) -> usize
     requires { col < N }
     ensures is { result ≡ pivot_of N m.now col }
@@ -84,7 +84,7 @@ fn pivot<const N: usize>(m: &[[f64; N]; N], col: usize) -> usize
 }
 
 // The rows, or the right side's entries, `col` and `pivot` in each other's place.
-// Kept (3): (b) a `swap` with an index that the compiler does not know has the rows stored and read back.
+// Kept (3): a `swap` with an index that the compiler does not know has the rows in memory instead of registers (docs/SPEED.md).
 fn swap_in<T>(items: &mut [T], col: usize, pivot: usize)
     requires { (col ≤ pivot) × (pivot < length items.old) }
     ensures { items.new ≡ swap items.old col pivot }
@@ -97,7 +97,7 @@ fn swap_in<T>(items: &mut [T], col: usize, pivot: usize)
 }
 
 // The row less factor times the pivot's row, from column col on.
-// Kept (3): (c) over `row.iter_mut().zip(&pivot).skip(col)` no invariant can name the row's entries, and nothing is known of them after it.
+// Kept (3): over `row.iter_mut().zip(&pivot).skip(col)` no invariant can name the row's entries, and nothing is known of them after it.
 fn eliminate_row<const N: usize>(
     row: [f64; N],
     pivot: [f64; N],
@@ -114,8 +114,8 @@ fn eliminate_row<const N: usize>(
 }
 
 // Elimination in column col: the matrix with the rows below col reduced; the right side follows in place.
-// Kept (3): (c) as in a row, and beside a row that is lent for a change the pivot's row could not be read.
-// Kept (5): (a) document 01 has the matrix an array of rows by value, the right side beside it.
+// Kept (3): as in a row; the number names the row's entry of the right side too.
+// Kept (5): document 01 has the matrix an array of rows by value, the right side beside it.
 fn eliminate<const N: usize>(m: [[f64; N]; N], b: &mut [f64; N], col: usize) -> [[f64; N]; N]
     requires { col < N }
     ensures { system result b.new ≡ eliminated_of N col (system m.entry b.old) }
@@ -144,6 +144,7 @@ fn substitute<const N: usize>(row: &[f64; N], x: &[f64; N], from: usize, acc: f6
 }
 
 // Back substitution, from the last row up.
+// Kept (3): a row's number is also that of the unknown that it gives, and tells which are known.
 fn back_substitution<const N: usize>(m: &[[f64; N]; N], b: &[f64; N]) -> [f64; N]
     ensures { result ≡ back_substitution N (system m.now b.now) }
 {
@@ -180,7 +181,7 @@ fn column<const N: usize>(
 
 // The system by Gaussian elimination with partial pivoting, or the first column whose pivot is at most tol times the scale. Back
 // substitution never gives up.
-// Kept (3): (b) the first four columns one by one: with a number for the column the rows stay in registers, and three or four unknowns take
+// Kept (3): the first four columns one by one: with a number for the column the rows stay in registers, and three or four unknowns take
 // a half of the time, or less, that the loop alone takes.
 pub fn solve_square<const N: usize>(
     a: [[f64; N]; N],
