@@ -186,21 +186,6 @@ module _ (bytes : List ℕ) {r : Refusal} (e : job_of bytes ≡ Err r) where
   unlike_whole : {j : Job} → job_of bytes ≡ Ok j → ⊥
   unlike_whole {j} q = let same : Ok j ≡ Err r = sym q ∙ e in let z : ◌≡◌ {A = ℕ} 0 1 = cc in omega arith
 
-  -- its refusal, 19, adds nothing
-  pub unread_bounded : Bounded (Err r)
-  unread_bounded = rw (unread bytes r e) (record { count = omega arith; start = omega arith; closing = omega arith; round = omega arith; column = omega arith })
-
-  pub unread_word : traced_word (Err r) ≡ number_of r
-  unfolding traced_word
-  unread_word = rw (unread bytes r e)
-
-  pub unread_index : index_of r < 4294967296
-  unread_index = rw (unread bytes r e) (omega arith)
-
-  pub unread_checked : checked_word (Err r) ≡ number_of r
-  unfolding checked_word
-  unread_checked = rw (unread bytes r e)
-
   pub traced_unread : (t : List Float) {w : ℕ} → w ≡ number_of r → TraceWord bytes t t w
   unfolding trace_answer
   traced_unread t f =

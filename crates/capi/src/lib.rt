@@ -112,22 +112,24 @@ fn traced_word(answer: Result<Traced, Refusal>) -> u64
     }
 }
 
-// Walks the line that a job file asks for.
-fn trace(job: &[u8], buffer: &mut [f64]) -> Result<Traced, Refusal>
-    ensures bounded { Bounded result }
-    ensures word { TraceWord job.now buffer.old buffer.new (traced_word result) }
-{
-    let asked = job::file::read(job)?;
-    geomcore::call::trace(asked.a, asked.b, asked.tol, asked.guess, asked.cap, buffer)
-}
-
 // Walks the line that a job file asks for over the lent numbers, which may be any. A low byte of 0 means that the line in the buffer passes
 // the check, with the count, start and code of the word; beside 9 and 21 the byte above it is the Newton round in which the meeting gave up,
 // beside 21 the two bytes above that the column at which the solve did.
+// Kept (1): a function with `?` copies the job once more: a trace refused by 8 takes 210 ns for 200.
 pub fn geomcore_trace(job: &[u8], buffer: &mut [f64]) -> u64
     ensures { TraceWord job.now buffer.old buffer.new result }
 {
-    traced_word(trace(job, buffer))
+    match job::file::read(job) {
+        Err(refusal) => refusal.number(),
+        Ok(asked) => traced_word(geomcore::call::trace(
+            asked.a,
+            asked.b,
+            asked.tol,
+            asked.guess,
+            asked.cap,
+            buffer,
+        )),
+    }
 }
 
 // The word of a refusal: its number, and 2^32 times the index of the point that it names.
@@ -164,21 +166,19 @@ fn claim(count: u64, start: u64, code: u64) -> Claim
     }
 }
 
-// Checks a claimed trace against a job file.
-fn check(job: &[u8], buffer: &[f64], claim: Claim) -> Result<(), Refusal>
-    ensures index { index_in result < 4294967296 }
-    ensures word { CheckWord job.now buffer.now claim.count claim.start claim.code (checked_word result) }
-{
-    let asked = job::file::read(job)?;
-    geomcore::call::check(asked.a, asked.b, asked.tol, buffer, claim)
-}
-
 // Checks a claimed trace against the surfaces and tolerance of a job file; its guess and cap aren't read. The word is 0 exactly when the
 // bytes are a job and the trace passes.
+// Kept (1): a function with `?` copies the job once more: five points are checked in 488 ns for 450, and a file refused in 39 for 18.
 pub fn geomcore_check(job: &[u8], buffer: &[f64], count: u64, start: u64, code: u64) -> u64
     ensures { CheckWord job.now buffer.now count start code result }
 {
-    checked_word(check(job, buffer, claim(count, start, code)))
+    match job::file::read(job) {
+        Err(refusal) => refusal.number(),
+        Ok(asked) => {
+            let claim = claim(count, start, code);
+            checked_word(geomcore::call::check(asked.a, asked.b, asked.tol, buffer, claim))
+        }
+    }
 }
 
 // The answer's word: the refusal's number, and 2^8 where the trace is crossed.
