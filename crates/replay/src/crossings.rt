@@ -7,7 +7,7 @@ pub struct Crossings;
 
 // The lent points. The parameters are NaNs: no answer depends on them.
 fn points(bytes: &[u8; RECORD]) -> [[f64; 7]; 36] {
-    let nan = 0.0 / 0.0;
+    let nan = f64::NAN;
     let mut points = [[nan; 7]; 36];
     for (point, words) in points.iter_mut().zip(bytes[96..].chunks_exact(24)) {
         load(words, &mut point[..3]);
