@@ -45,13 +45,7 @@ pub fn trace(
 // below it, a code above 2 or a closing that is not so; then point by point, with the point's index, 14 a parameter outside its window,
 // 13 not A's own point, 15 a gap not at most the confusion, 16 a chord not at most 0.2. It writes nothing. At each point of a trace that
 // passes the exact squared gap is at most confusion squared times (1 + 2^-50).
-pub fn check(
-    a: Patch,
-    b: Patch,
-    tol: Tolerance,
-    trace: &[f64],
-    claim: Claim,
-) -> Result<(), Refusal>
+pub fn check(a: Patch, b: Patch, tol: Tolerance, trace: &[f64], claim: Claim) -> Result<(), Refusal>
     ensures { CheckPromise a b tol trace.now claim.count claim.start claim.code result }
 {
     certificate::check::check(a, b, tol, trace, claim)

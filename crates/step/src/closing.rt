@@ -48,8 +48,7 @@ pub fn first_stride(confusion: f64) -> f64
 pub(crate) fn next_stride(confusion: f64, h: f64, curvature: f64) -> f64
     ensures { result ≡ next_stride confusion h curvature }
 {
-    let square = SAGITTA * chord_deviation(confusion)
-        / number::max(curvature, f64::MIN_POSITIVE);
+    let square = SAGITTA * chord_deviation(confusion) / number::max(curvature, f64::MIN_POSITIVE);
     let longest = number::min(2.0 * h, H_MAX);
     if sqrt::at_most(square, longest) {
         number::min(longest, sqrt::sqrt(square))
