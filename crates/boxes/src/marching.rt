@@ -1,7 +1,7 @@
 ghost use Rattle.std.specs.Prelude.{◌≡◌, ◌*◌, ◌/◌, ◌≤◌, ◌<◌, length};
 ghost use Rattle.groups.specs.Groups.{width};
 ghost use Rattle.boxes.specs.Segment.{clip_of, segment_meets_box};
-ghost use Rattle.boxes.specs.Crosses.{grown_of, some_segment, run_crosses, runs_of, run_at, some_run, crosses_of};
+ghost use Rattle.boxes.specs.Crosses.{grown_of, some_segment, run_crosses, some_run, crosses_of};
 
 use crate::boxtree::Aabb;
 use crate::{boxtree, pieces};
@@ -78,27 +78,21 @@ fn run_crosses(points: &[f64], b: Aabb) -> bool
     some_segment(points, b)
 }
 
-// Whether a run crosses the box. It is handed on as the part of the trace from its first point: 17 points of it, or what is left.
-fn run_at(points: &[f64], run: usize, b: Aabb) -> bool
-    requires { run < runs_of (length points.now / width) }
-    ensures { result ≡ run_at points.now (length points.now / width) b run }
-{
-    let first = RUN * run;
-    let part = &points[WIDTH * first..];
-    let part = &part[..part.len().min(WIDTH * (RUN + 1))];
-    run_crosses(part, b)
-}
-
-// Whether some run crosses the box.
+// Each run is handed on as the part of the trace from its first point: 17 points of it, or what is left.
+// Kept (3): a run ends where the next one begins, so the runs are no chunks of the list; with `any` over their numbers (tried) a crossing
+// takes 5% longer.
 fn some_run(points: &[f64], b: Aabb) -> bool
     ensures { result ≡ some_run points.now (length points.now / width) b }
 {
     let segments = (points.len() / WIDTH).saturating_sub(1);
-    (0..segments.div_ceil(RUN)).any(
-        |run|
-            requires { run < runs_of (length points.now / width) }
-        { run_at(points, run, b) },
-    )
+    for first in (0..segments).step_by(RUN) {
+        let part = &points[WIDTH * first..];
+        let run = &part[..part.len().min(WIDTH * (RUN + 1))];
+        if run_crosses(run, b) {
+            return true;
+        }
+    }
+    false
 }
 
 // The box grown by the distance that a trace's chords may stray from the curve.

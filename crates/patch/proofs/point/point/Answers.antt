@@ -1,4 +1,4 @@
-use Rattle.std.proofs.Common.{◌≡◌, Ok, Err, true, sym, ap, ◌∙◌, rules}
+use Rattle.std.proofs.Common.{◌≡◌, Err, sym, ◌∙◌, rules}
 use Rattle.std.specs.Float.Ieee.Scale.{finite}
 use Rattle.refusal.specs.declared.Refusal.TheVariants as refusal
 use Rattle.refusal.proofs.Order.{asked_held, asked_failed, asked_as}
