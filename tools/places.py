@@ -33,6 +33,7 @@ def functions(text):
 
 
 def parameters(signature):
+    signature = signature.replace('pub(crate) ', '', 1)
     inside = signature[signature.index('('):]
     depth, at, out = 0, '', []
     for c in inside[1:]:
