@@ -14,3 +14,6 @@ returns-then-angular-length c =
     let mb : Moderate g.b = record { fit = passes _ c.well_formed.1.0.1; least = b.0; most = b.1 } in
     let me : Moderate g.angular = record { fit = passes _ c.well_formed.1.1.1.0.1; least = e.0; most = e.1 } in
     sym (not_parallel ma mb me g.length (passes _ c.if-angular-length.true))
+
+pub returns : goal.returns
+returns c = rw (c.max.ensures, c.sqrt-2.ensures.answer, c.sqrt.ensures.answer)
