@@ -1,3 +1,4 @@
+pub mod Free
 pub mod Symmetric
 pub mod Intersection
 pub mod Rounds

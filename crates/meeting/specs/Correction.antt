@@ -1,5 +1,5 @@
 -- A correction of Newton's method in `meet` and `land` of marching.rs. Definitions only.
-use Rattle.std.specs.Prelude.{ℕ, eqb, ltb, Float, List, [], ◌∷◌, ◌++◌, get_or, Result, Ok, Err}
+use Rattle.std.specs.Prelude.{◌≡◌, ℕ, ◌≤◌, ◌<◌, eqb, ltb, Float, List, [], ◌∷◌, ◌++◌, ◌+◌, get_or, Result, Ok, Err}
 use Rattle.std.specs.Float.{nan}
 use Rattle.std.specs.Float.Ieee.{neg}
 use Rattle.loops.specs.Loop.{pick}
@@ -130,17 +130,16 @@ plane_correction c normal f r =
     (neg f.x ∷ neg f.y ∷ neg f.z ∷ neg r ∷ [])
     solver_tol)
 
--- "A table of four rows of three names the free ones for each pin, 0 to 3, in rising order"; a pin above 3 counts as 3
-abbrev pub free_table : List (List ℕ)
-free_table = (1 ∷ 2 ∷ 3 ∷ []) ∷ (0 ∷ 2 ∷ 3 ∷ []) ∷ (0 ∷ 1 ∷ 3 ∷ []) ∷ (0 ∷ 1 ∷ 2 ∷ []) ∷ []
+-- 02, A4: "counted from 0, the i-th free index is i below the pin and i + 1 from the pin on"
+unfoldable pub free_at : ℕ → ℕ → ℕ
+free_at pin i = pick (ltb i pin) i (i + 1)
 
--- the free parameters of a pin
-unfoldable pub free_of : ℕ → List ℕ
-free_of pin = get_or free_table (pick (ltb pin 3) pin 3) []
-
--- the i-th of them
-abbrev pub free_at : ℕ → ℕ → ℕ
-free_at pin i = get_or (free_of pin) i 0
+-- 02, A4: "For each pin this is proved to name exactly the other three, rising": three of the indices 0 to 3
+pub record NamesOthers (pin : ℕ) (free : ℕ → ℕ) : Type 0 where
+  pub rising : (i j : ℕ) → i < j → j < 3 → free i < free j
+  pub others : (i : ℕ) → i < 3 → free i ≡ pin → ⊥
+  pub within : (i : ℕ) → i < 3 → free i ≤ 3
+  pub every : pin ≤ 3 → (k : ℕ) → k ≤ 3 → (k ≡ pin → ⊥) → (i : ℕ) × (i < 3) × (free i ≡ k)
 
 -- the three changes in their places, and 0 in the pinned one's
 unfoldable pub placed_of : ℕ → List Float → Parameters

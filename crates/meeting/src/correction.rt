@@ -1,12 +1,13 @@
 // A correction of Newton's method: the residual at the parameters, and the change of the parameters that a linear system gives.
 ghost use Rattle.std.specs.Prelude.{◌≡◌, ℕ, ◌<◌, slice_index};
 ghost use Rattle.meeting.specs.Correction.{offset_of, residual_of, columns_of, rows_of, dot4_of, normal_matrix, free_correction, plane_correction};
-ghost use Rattle.meeting.specs.Correction.{free_of, placed_of, pin_correction, correction_of, shifted_of};
+ghost use Rattle.meeting.specs.Correction.{free_at, NamesOthers, placed_of, pin_correction, correction_of, shifted_of};
 
 use crate::parameters::{parameter, with_parameter};
 use geometry::{Point3D, Vector3D};
 use patch::{Parameters, Patch};
 use solve::{SOLVER_TOL, Singular, solve_square};
+use std::array;
 
 // What is solved beside S1(u1, v1) = S2(u2, v2): nothing (the minimum-norm correction), a plane through a point with a normal, or a
 // parameter held at its value.
@@ -121,16 +122,18 @@ fn plane_correction(
     Ok(Parameters { u1, v1, u2, v2 })
 }
 
-// The free parameters for each pin, in rising order.
-const FREE: [[usize; 3]; 4] = [[1, 2, 3], [0, 2, 3], [0, 1, 3], [0, 1, 2]];
-
-// Those of a pin; one above 3 counts as 3.
-// Kept (1): `land` takes any number for a pin, and document 01 has "a table of four rows of three" for "each pin, 0 to 3".
+// The free parameters, in rising order: the i-th is i below the pin and i + 1 from the pin on.
+// Kept (1): the formula counts from the pin's number, and `land` takes any.
 fn free(pin: usize) -> [usize; 3]
-    ensures row { result ≡ free_of pin }
-    ensures below { (i : ℕ) → slice_index result i < 4 }
+    ensures each { (i : ℕ) → i < 3 → slice_index result i ≡ free_at pin i }
+    ensures names { NamesOthers pin (slice_index result) }
 {
-    FREE[if pin < 3 { pin } else { 3 }]
+    array::from_fn(
+        |i|
+            requires { i < 3 }
+            ensures { result ≡ free_at pin i }
+        { if i < pin { i } else { i + 1 } },
+    )
 }
 
 // The change of the three free parameters, in their places.

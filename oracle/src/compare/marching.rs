@@ -35,6 +35,23 @@ const STEPS: [&str; 6] = [
     "land",
 ];
 
+/// Pins above 3, which the Rust does not take: ours counts each as 3.
+const ABOVE: [u64; 4] = [4, 5, 1 << 32, u64::MAX];
+
+/// The pin handed over in the call of so many, of one drawn from 0 to 3: every other 3 is one above 3.
+fn pin(drawn: u64, index: u64) -> u64 {
+    if drawn == 3 && index % 2 == 1 {
+        ABOVE[(index / 2) as usize % ABOVE.len()]
+    } else {
+        drawn
+    }
+}
+
+/// The parameter that a pin holds.
+fn held(pin: u64) -> usize {
+    pin.min(3) as usize
+}
+
 /// Numbers that branch or overflow somewhere.
 const SPECIAL: [f64; 16] = [
     0.0,
@@ -337,8 +354,8 @@ fn asked(r: &mut Random, c: &Call, at: [f64; 4]) -> [f64; 6] {
             let o = p + unit(r) * off;
             rest = [o.x, o.y, o.z, n.x, n.y, n.z];
         }
-        Step::Land(pin) if c.kind == 11 => rest[0] = at[pin as usize],
-        Step::Land(pin) => rest[0] = bound(r, &c.a, &c.b, pin as usize, at[pin as usize]),
+        Step::Land(pin) if c.kind == 11 => rest[0] = at[held(pin)],
+        Step::Land(pin) => rest[0] = bound(r, &c.a, &c.b, held(pin), at[held(pin)]),
         Step::Tangent | Step::Meet => {}
     }
     rest
@@ -404,7 +421,7 @@ fn call(r: &mut Random, index: u64, step: usize) -> Call {
         2 => Step::Leaving,
         3 => Step::Meet,
         4 => Step::MeetInPlane,
-        _ => Step::Land(r.below(4) as u64),
+        _ => Step::Land(pin(r.below(4) as u64, index)),
     };
     let tol = tolerance(r);
     let mut c = Call {
@@ -420,7 +437,7 @@ fn call(r: &mut Random, index: u64, step: usize) -> Call {
         && kind == 11
     {
         // No call of the walk: it lands on an end of a window that is applied.
-        let (k, low) = (pin as usize, at[pin as usize] + r.scaled(-50, 0).abs());
+        let (k, low) = (held(pin), at[held(pin)] + r.scaled(-50, 0).abs());
         let s = if k < 2 { &mut c.a } else { &mut c.b };
         s.windows[k % 2] = (low, low + 1.0);
         s.marks[k % 2] = false;
@@ -501,7 +518,7 @@ impl Timed {
                 &c.a,
                 &c.b,
                 c.x,
-                pin as usize,
+                held(pin),
                 p,
                 c.tol,
                 Windows::Asked,
@@ -542,8 +559,7 @@ fn answer(c: &Call, windows: Windows) -> (u64, Vec<f64>) {
             met(y, mark)
         }
         Step::Land(pin) => {
-            let pin = pin as usize;
-            let y = land(&c.a, &c.b, c.x, pin, p, c.tol, windows, &mut mark);
+            let y = land(&c.a, &c.b, c.x, held(pin), p, c.tol, windows, &mut mark);
             met(y, mark)
         }
     }
@@ -634,6 +650,39 @@ impl Rounds {
     }
 }
 
+/// How landings agree, pin by pin, those above 3 together.
+#[derive(Default)]
+struct Pins([Landed; 5]);
+
+#[derive(Default)]
+struct Landed {
+    calls: u64,
+    answers: u64,
+    differ: u64,
+}
+
+impl Pins {
+    fn count(&mut self, step: Step, answered: bool, differs: bool) {
+        let Step::Land(pin) = step else {
+            return;
+        };
+        let of = &mut self.0[pin.min(4) as usize];
+        of.calls += 1;
+        of.answers += u64::from(answered);
+        of.differ += u64::from(differs);
+    }
+
+    fn print(&self) {
+        let names = ["pin 0", "pin 1", "pin 2", "pin 3", "pins above 3"];
+        for (name, of) in names.iter().zip(&self.0).filter(|(_, of)| of.calls > 0) {
+            println!(
+                "land, {name}: {} compared, {} differ ({} with an answer)",
+                of.calls, of.differ, of.answers
+            );
+        }
+    }
+}
+
 /// The word as the Rust has it: every failed meeting is its one `None`.
 fn as_the_rust(said: u64) -> u64 {
     if said >= 256 { 0 } else { said }
@@ -684,7 +733,7 @@ fn lands_inside(c: &Call) -> bool {
     let Step::Land(pin) = c.step else {
         return true;
     };
-    let k = pin as usize;
+    let k = held(pin);
     let s = if k < 2 { &c.a } else { &c.b };
     let (low, high) = s.windows[k % 2];
     s.marks[k % 2] || low <= c.rest[0] && c.rest[0] <= high
@@ -701,6 +750,7 @@ pub fn compare(seed: u64, count: u64) -> u64 {
         let mut changed_inside = 0u64;
         let mut pairs = [0u64; 25];
         let mut rounds = Rounds::default();
+        let mut pins = Pins::default();
         let mut wrong = 0;
         for i in 0..count {
             let c = call(&mut r, i, step);
@@ -719,6 +769,7 @@ pub fn compare(seed: u64, count: u64) -> u64 {
             }
             let (rust, whole) = agrees(&c, &expected);
             rounds.count(expected.0 >> 8, rust && !whole);
+            pins.count(c.step, answered(c.step, expected.0), !(rust && whole));
             if !rust {
                 wrong += 1;
                 if wrong <= 3 {
@@ -752,6 +803,7 @@ pub fn compare(seed: u64, count: u64) -> u64 {
         if step >= 3 {
             rounds.print(name);
         }
+        pins.print();
         differ += wrong + rounds.differ;
     }
     differ

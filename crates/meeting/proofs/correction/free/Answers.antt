@@ -1,11 +1,9 @@
-use borrow.Author.Tests.{le-ltb, lt-ltb}
-use Rattle.meeting.specs.Correction.{free_of}
+use Rattle.std.proofs.Common.{rules, ◌≡◌, ℕ, ◌<◌, slice_index}
+use Rattle.meeting.specs.Correction.{free_at}
+use Rattle.meeting.proofs.Free.{names_others}
 use Rattle.meeting.proofs.correction.free.Goals as goal
-use Rattle.meeting.proofs.correction.free.Goals.{then-pin-lt3, else-pin-lt3}
 
-pub returns-clause-row : goal.returns-clause-row
-unfolding free_of
-returns-clause-row c = elim c.if-pin-lt3.branch [
-  | then-pin-lt3 w ↦ rw (lt-ltb _ _ w.if-pin-lt3.true, w.result-is)
-  | else-pin-lt3 w ↦ rw (le-ltb _ _ w.if-pin-lt3.false, w.result-is)
-]
+pub returns : goal.returns
+returns c =
+    let each : (i : ℕ) → i < 3 → slice_index c.from_fn.result i ≡ free_at c.args.pin i = λ i h. search (rules, c.from_fn.ensures.items.at i 0 h) in
+    record { each = each; names = names_others c.args.pin (slice_index c.from_fn.result) each }
