@@ -26,17 +26,18 @@ module _ (pin : ℕ) (free : ℕ → ℕ) (each : (i : ℕ) → i < 3 → free i
   free_is : (i : ℕ) → i < 3 → Formula i (free i)
   free_is i h = ⊎_elim (λ p. inl (p.0, each i h ∙ p.1)) (λ p. inr (p.0, each i h ∙ p.1)) (formula i)
 
+  -- k itself where it is below the pin, else the one before it
   every : pin ≤ 3 → (k : ℕ) → k ≤ 3 → (k ≡ pin → ⊥) → (i : ℕ) × (i < 3) × (free i ≡ k)
   every h k m n = go (ltb k pin) (ltb→lt k pin) (nltb→le k pin)
     where
       go : (t : Bool) → (T t → k < pin) → (T (not t) → pin ≤ k) → (i : ℕ) × (i < 3) × (free i ≡ k)
-      go true f g = let p = f tt in let s : k < 3 = omega arith in (k, s, ⊎_elim (λ q. q.1) (λ q. omega arith) (free_is k s))
-      go false f g = let p = g tt in let s : k - 1 < 3 = omega arith in (k - 1, s, ⊎_elim (λ q. omega arith) (λ q. omega arith) (free_is (k - 1) s))
+      go true f g = let p = f tt in let s : k < 3 = omega arith in (k, s, grind (arith, free_is k s))
+      go false f g = let p = g tt in let s : k - 1 < 3 = omega arith in (k - 1, s, grind (arith, free_is (k - 1) s))
 
   pub names_others : NamesOthers pin free
   names_others = record {
-    rising = λ i j h k. ⊎_elim (λ p. ⊎_elim (λ q. omega arith) (λ q. omega arith) (free_is j k)) (λ p. ⊎_elim (λ q. omega arith) (λ q. omega arith) (free_is j k)) (free_is i (omega arith));
-    others = λ i h e. ⊎_elim (λ p. omega arith) (λ p. omega arith) (free_is i h);
+    rising = λ i j h k. let s : i < 3 = omega arith in grind (arith, free_is i s, free_is j k);
+    others = λ i h e. grind (arith, free_is i h);
     within = λ i h. ⊎_elim (λ p. omega arith) (λ p. omega arith) (free_is i h);
     every = every;
   }
