@@ -650,35 +650,32 @@ impl Rounds {
     }
 }
 
-/// How landings agree, pin by pin, those above 3 together.
+/// How many landings have each pin, those above 3 together, and how many of them an answer.
 #[derive(Default)]
-struct Pins([Landed; 5]);
-
-#[derive(Default)]
-struct Landed {
-    calls: u64,
-    answers: u64,
-    differ: u64,
+struct Pins {
+    calls: [u64; 5],
+    answers: [u64; 5],
 }
 
 impl Pins {
-    fn count(&mut self, step: Step, answered: bool, differs: bool) {
+    fn count(&mut self, step: Step, answered: bool) {
         let Step::Land(pin) = step else {
             return;
         };
-        let of = &mut self.0[pin.min(4) as usize];
-        of.calls += 1;
-        of.answers += u64::from(answered);
-        of.differ += u64::from(differs);
+        let k = pin.min(4) as usize;
+        self.calls[k] += 1;
+        self.answers[k] += u64::from(answered);
     }
 
-    fn print(&self) {
-        let names = ["pin 0", "pin 1", "pin 2", "pin 3", "pins above 3"];
-        for (name, of) in names.iter().zip(&self.0).filter(|(_, of)| of.calls > 0) {
-            println!(
-                "land, {name}: {} compared, {} differ ({} with an answer)",
-                of.calls, of.differ, of.answers
-            );
+    /// What the row of `land` says of them.
+    fn note(&self) -> String {
+        if self.calls == [0; 5] {
+            String::new()
+        } else {
+            format!(
+                "; pins 0 to 3 and above: {:?}, with an answer {:?}",
+                self.calls, self.answers
+            )
         }
     }
 }
@@ -769,7 +766,7 @@ pub fn compare(seed: u64, count: u64) -> u64 {
             }
             let (rust, whole) = agrees(&c, &expected);
             rounds.count(expected.0 >> 8, rust && !whole);
-            pins.count(c.step, answered(c.step, expected.0), !(rust && whole));
+            pins.count(c.step, answered(c.step, expected.0));
             if !rust {
                 wrong += 1;
                 if wrong <= 3 {
@@ -792,7 +789,8 @@ pub fn compare(seed: u64, count: u64) -> u64 {
             String::new()
         };
         println!(
-            "{name}: {count} compared, {wrong} differ ({all} with an answer, of a pair of kinds at least {least}{tested})"
+            "{name}: {count} compared, {wrong} differ ({all} with an answer, of a pair of kinds at least {least}{tested}{})",
+            pins.note()
         );
         for (k, kind) in KINDS.iter().enumerate() {
             println!(
@@ -803,7 +801,6 @@ pub fn compare(seed: u64, count: u64) -> u64 {
         if step >= 3 {
             rounds.print(name);
         }
-        pins.print();
         differ += wrong + rounds.differ;
     }
     differ
@@ -930,13 +927,17 @@ mod tests {
         let [x, y, z] = units();
         let plane = [0.5, 0.0, 0.0, 1.0, 0.0, 0.0];
         // Two parallel planes. Without a plane the column is the coordinate in which they are apart; with one it is v on B; in a landing
-        // it is the third free parameter.
+        // it is the third free parameter, or the second where that and the first are u on A and u on B.
         for ((x, y, z), step, column) in [
             ((y, z, x), Step::Meet, 0),
             ((z, x, y), Step::Meet, 1),
             ((x, y, z), Step::Meet, 2),
             ((x, y, z), Step::MeetInPlane, 3),
             ((x, y, z), Step::Land(0), 2),
+            ((x, y, z), Step::Land(1), 1),
+            ((x, y, z), Step::Land(2), 2),
+            ((x, y, z), Step::Land(3), 2),
+            ((x, y, z), Step::Land(u64::MAX), 2),
         ] {
             let mut c = unit_windows(step, plane);
             let origin = Point3D::new(0.0, 0.0, 0.0);
