@@ -123,18 +123,19 @@ fn surfaces(rounds: u32) {
 /// The steps of the walk, for pairs of kinds.
 fn steps(rounds: u32) {
     let pairs = [[0, 0], [0, 1], [1, 1], [2, 3], [3, 4], [4, 4]];
-    let steps = [
-        ("tangent", Step::Tangent),
-        ("predict", Step::Predict),
-        ("leaving", Step::Leaving),
-        ("meet", Step::Meet),
-        ("meet_in_plane", Step::MeetInPlane),
-        ("land", Step::Land(0)),
+    let steps: [(&str, fn(u64) -> Step); 7] = [
+        ("tangent", |_| Step::Tangent),
+        ("predict", |_| Step::Predict),
+        ("leaving", |_| Step::Leaving),
+        ("meet", |_| Step::Meet),
+        ("meet_in_plane", |_| Step::MeetInPlane),
+        ("land", |_| Step::Land(0)),
+        ("land, pins in turn", |i| Step::Land(i % 4)),
     ];
     for (name, step) in steps {
         for kinds in pairs {
             let mut r = Random::new(11);
-            let calls: Vec<Timed> = (0..512).map(|_| timed(&mut r, kinds, step)).collect();
+            let calls: Vec<Timed> = (0..512).map(|i| timed(&mut r, kinds, step(i))).collect();
             let ours = |c: &Timed| {
                 let mut out = [0.0; 4];
                 c.ours(&mut out) as f64 + out[0]
