@@ -309,9 +309,10 @@ def sum_of(crate, uses):
 
 
 def copy_of_crates(folder):
-    """A copy of the crates to change and check, of a worker's own: checks in one tree wait for one another."""
+    """A copy of the crates to change and check, of a worker's own: checks in one tree wait for one another. What the check before kept in
+    their `out` goes with them, so that a trial proves what its edit touches and not every crate below."""
     copy = tempfile.mkdtemp(dir=folder)
-    shutil.copytree('crates', f'{copy}/crates', ignore=shutil.ignore_patterns('out', 'must-fail'))
+    shutil.copytree('crates', f'{copy}/crates', ignore=shutil.ignore_patterns('must-fail'))
     for file in ('crates.txt', 'HANDLES'):
         if os.path.exists(file):
             shutil.copy(file, copy)
@@ -340,7 +341,7 @@ def of_whole_words(crates, uses):
             os.replace(f'{file}.{os.getpid()}', file)
         return came.missing, came.counted
 
-    with tempfile.TemporaryDirectory() as folder, concurrent.futures.ThreadPoolExecutor(max(1, (os.cpu_count() or 2) // 2)) as workers:
+    with tempfile.TemporaryDirectory() as folder, concurrent.futures.ThreadPoolExecutor(os.cpu_count() or 2) as workers:
         came = list(workers.map(one, crates))
     counted = sum((it[1] for it in came), collections.Counter())
     print(f'{sum(counted.values())} wrong answers refused: ' + ', '.join(f'{counted[kind]} by {kind}' for kind in [*STRONG, *WEAK]))
