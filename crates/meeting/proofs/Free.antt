@@ -42,6 +42,9 @@ module _ (pin : ℕ) (free : ℕ → ℕ) (each : (i : ℕ) → i < 3 → free i
     every = every;
   }
 
+pub formula_names_others : (pin : ℕ) → NamesOthers pin (free_at pin)
+formula_names_others pin = names_others pin (free_at pin) (λ i h. refl)
+
 -- what the landing had: four rows of three, of which a pin above 3 took the last
 abbrev rows_before : List (List ℕ)
 rows_before = (1 ∷ 2 ∷ 3 ∷ []) ∷ (0 ∷ 2 ∷ 3 ∷ []) ∷ (0 ∷ 1 ∷ 3 ∷ []) ∷ (0 ∷ 1 ∷ 2 ∷ []) ∷ []
