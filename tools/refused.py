@@ -309,10 +309,9 @@ def sum_of(crate, uses):
 
 
 def copy_of_crates(folder):
-    """A copy of the crates to change and check, of a worker's own: checks in one tree wait for one another. What the check before kept in
-    their `out` goes with them, so that a trial proves what its edit touches and not every crate below."""
+    """A copy of the crates to change and check, of a worker's own: checks in one tree wait for one another."""
     copy = tempfile.mkdtemp(dir=folder)
-    shutil.copytree('crates', f'{copy}/crates', ignore=shutil.ignore_patterns('must-fail'))
+    shutil.copytree('crates', f'{copy}/crates', ignore=shutil.ignore_patterns('out', 'must-fail'))
     for file in ('crates.txt', 'HANDLES'):
         if os.path.exists(file):
             shutil.copy(file, copy)
