@@ -278,10 +278,11 @@ class Tried:
 
     def crate(self, copy, crate):
         """Tries the edits of a crate."""
-        if 'logic=proved' not in checked(copy, crate, [], f'target/must-fail/{crate}/.log'):
+        edits = sorted(glob.glob(f'crates/{crate}/must-fail/*.edit'))
+        if edits and 'logic=proved' not in checked(copy, crate, [], f'target/must-fail/{crate}/.log'):
             self.missing.append(f'{crate} is not proved as it stands')
             return self
-        for edit in sorted(glob.glob(f'crates/{crate}/must-fail/*.edit')):
+        for edit in edits:
             label, answers = os.path.basename(edit)[:-len('.edit')], read(edit)
             if fault(answers):
                 self.missing.append(f'{crate}/{label}: {fault(answers)}')
@@ -309,9 +310,10 @@ def sum_of(crate, uses):
 
 
 def copy_of_crates(folder):
-    """A copy of the crates to change and check, of a worker's own: checks in one tree wait for one another."""
+    """A copy of the crates to change and check, of a worker's own: checks in one tree wait for one another. What the check before kept in
+    their `out` goes with them, so that a trial proves what its edit touches and not every crate below."""
     copy = tempfile.mkdtemp(dir=folder)
-    shutil.copytree('crates', f'{copy}/crates', ignore=shutil.ignore_patterns('out', 'must-fail'))
+    shutil.copytree('crates', f'{copy}/crates', ignore=shutil.ignore_patterns('must-fail'))
     for file in ('crates.txt', 'HANDLES'):
         if os.path.exists(file):
             shutil.copy(file, copy)
