@@ -1,3 +1,4 @@
+pub mod Truncation
 pub mod Computing
 pub mod Examples
 pub mod Machin

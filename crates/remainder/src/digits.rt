@@ -6,7 +6,7 @@ ghost use Rattle.remainder.specs.Kernel.{complemented, opposite_of, carried_of, 
 ghost use Rattle.remainder.specs.Kernel.{joined_of, needed_of};
 
 use crate::machine::{floor, int, scalbn};
-use crate::table::TWO_OVER_PI;
+use crate::table;
 
 pub(crate) const TWO24: f64 = 1.67772160000000000000e+07;
 
@@ -29,7 +29,7 @@ pub(crate) fn first_digits(f: &mut [f64; 20], jv: usize, jx: usize)
         f[i] = if jv + i < jx {
             0.0
         } else {
-            TWO_OVER_PI[jv + i - jx] as f64
+            table::digit(jv + i - jx)
         };
     }
 }
@@ -70,7 +70,7 @@ pub(crate) fn more(
     ensures { terms f.new q.new jz ≡ more_of x.now jx jv k (terms f.old q.old jz) }
 {
     for i in jz + 1..jz + k + 1 {
-        f[jx + i] = TWO_OVER_PI[jv + i] as f64;
+        f[jx + i] = table::digit(jv + i);
         q[i] = term(x, f, jx, i);
     }
 }
@@ -233,7 +233,7 @@ pub(crate) fn one_pass(iq: &mut [u32; 21], q: &[f64; 21], jz: usize, q0: i32) ->
 
 // The digits from jk on, joined: 0 where all are.
 pub(crate) fn joined(iq: &[u32; 21], jz: usize) -> u32
-    requires { jz ≤ 19 }
+    requires { (4 ≤ jz) × (jz ≤ 19) }
     ensures { result ≡ joined_of iq.now jz }
 {
     let mut j = 0;

@@ -6,7 +6,7 @@ ghost use Rattle.remainder.specs.Kernel.{chopped, chop_of, break_of, chopped_of,
 use crate::Reduction;
 use crate::digits::{Pass, TWO24, TWON24};
 use crate::machine::{int, scalbn};
-use crate::table::PIO2;
+use crate::table;
 
 // jz and q0 of k_rem_pio2.c.
 #[derive(Clone, Copy)]
@@ -84,7 +84,7 @@ fn part(q: &[f64; 21], jz: usize, t: usize) -> f64
     let last = if t < 4 { t } else { 4 };
     let mut fw = 0.0;
     for k in 0..last + 1 {
-        fw += PIO2[k] * q[jz - t + k];
+        fw += table::pio2(k) * q[jz - t + k];
     }
     fw
 }

@@ -1,7 +1,12 @@
 //! The tables: 2/pi and pi/2 in parts of 24 bits.
 
+ghost use Rattle.std.specs.Prelude.{◌≡◌, ◌<◌, get_or};
+ghost use Rattle.std.specs.Float.{nan};
+ghost use Rattle.remainder.specs.Machine.{double};
+ghost use Rattle.remainder.specs.Tables.{two_over_pi, pio2};
+
 // 2/pi in digits of 24 bits, two_over_pi of e_rem_pio2.c.
-pub(crate) static TWO_OVER_PI: [u32; 66] = [
+static TWO_OVER_PI: [u32; 66] = [
     0xa2_f983,
     0x6e_4e44,
     0x15_29fc,
@@ -71,10 +76,28 @@ pub(crate) static TWO_OVER_PI: [u32; 66] = [
 ];
 
 // pi/2 in parts of 24 bits, as many of PIo2 of k_rem_pio2.c as jp = 4 takes.
-pub(crate) static PIO2: [f64; 5] = [
+static PIO2: [f64; 5] = [
     1.57079625129699707031e+00,
     7.54978941586159635335e-08,
     5.39030252995776476554e-15,
     3.28200341580791294123e-22,
     1.27065575308067607349e-29,
 ];
+
+// The digit j of 2/pi.
+#[inline(always)]
+pub(crate) fn digit(j: usize) -> f64
+    requires { j < 66 }
+    ensures { result ≡ double (get_or two_over_pi j 0) }
+{
+    TWO_OVER_PI[j] as f64
+}
+
+// The part k of pi/2.
+#[inline(always)]
+pub(crate) fn pio2(k: usize) -> f64
+    requires { k < 5 }
+    ensures { result ≡ get_or pio2 k nan }
+{
+    PIO2[k]
+}
