@@ -9,9 +9,12 @@ mod digits;
 mod sums;
 mod table;
 
-ghost use Rattle.std.specs.Prelude.{◌≡◌, ◌≤◌, ◌≤ℤ◌, pos, negsuc};
+ghost use Rattle.std.specs.Prelude.{◌≡◌, ◌≤◌, ◌≤ℤ◌, pos, negsuc, eqb, false};
+ghost use Rattle.loops.specs.Loop.{pick};
+ghost use Rattle.number.specs.Operators.{◌==?◌};
+ghost use Rattle.number.specs.Helpers.{positive_zero};
 ghost use Rattle.number.specs.Words.{high_word};
-ghost use Rattle.remainder.specs.Kernel.{kernel_of};
+ghost use Rattle.remainder.specs.Kernel.{joined_of, kernel_of};
 ghost use Rattle.remainder.specs.Large.{scaled_of, pieces_of, jx_of, large_of};
 
 use machine::int;
@@ -32,6 +35,14 @@ const EXHAUSTED: Reduction = Reduction {
     y1: f64::NAN,
 };
 
+// "check if recomputation is needed".
+fn too_few(iq: &[u32; 21], z: f64, jz: usize) -> bool
+    requires { (4 ≤ jz) × (jz ≤ 19) }
+    ensures { result ≡ pick (z ==? positive_zero) (eqb (joined_of iq.now jz) 0) false }
+{
+    z == 0.0 && digits::joined(iq, jz) == 0
+}
+
 // __kernel_rem_pio2(x, y, e0, nx, 2, ipio2), for jx = nx - 1, jv and q0.
 fn kernel(x: &[f64; 3], jx: usize, jv: usize, q0: i32) -> Reduction
     requires { (jx ≤ 2) × (jv ≤ 41) × (negsuc 26 ≤ℤ q0) × (q0 ≤ℤ pos 2) }
@@ -45,7 +56,7 @@ fn kernel(x: &[f64; 3], jx: usize, jv: usize, q0: i32) -> Reduction
     for _ in 0..16usize {
         let mut iq = [0; 21];
         let at = digits::one_pass(&mut iq, &q, jz, q0);
-        if at.z != 0.0 || digits::joined(&iq, jz) != 0 {
+        if !too_few(&iq, at.z, jz) {
             return sums::finish(&mut iq, at, &mut q, jz, q0);
         }
         let Some(k) = digits::needed(&iq) else {
@@ -82,12 +93,10 @@ fn last_piece(tx: &[f64; 3]) -> usize
     ensures is { result ≡ jx_of tx.now }
     ensures within { result ≤ 2 }
 {
-    if tx[2] != 0.0 {
-        2
-    } else if tx[1] != 0.0 {
-        1
+    if tx[2] == 0.0 {
+        if tx[1] == 0.0 { 0 } else { 1 }
     } else {
-        0
+        2
     }
 }
 

@@ -38,9 +38,9 @@ fn break_up(iq: &mut [u32; 21], z: f64, jz: usize, q0: i32) -> Held
     ensures within { (result.jz ≤ 20) × (negsuc 506 ≤ℤ result.q0) × (result.q0 ≤ℤ pos 26) }
 {
     if TWO24 <= z {
-        let fw = int(TWON24 * z);
-        iq[jz] = int(z - TWO24 * fw as f64);
-        iq[jz + 1] = fw;
+        let fw = int(TWON24 * z) as f64;
+        iq[jz] = int(z - TWO24 * fw);
+        iq[jz + 1] = int(fw);
         Held {
             jz: jz + 1,
             q0: q0 + 24,

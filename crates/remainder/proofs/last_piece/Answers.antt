@@ -1,17 +1,15 @@
-use Rattle.std.proofs.Common.{rules, ◌≡◌, ◌≤◌, ◌≤ℤ◌, pos, negsuc, ℕ, ◌+◌, ◌-◌, ◌*◌, ◌<◌, length, ◌/◌, ◌%◌, Bool, true, false, nat_eq, nat_lt, List, [], ◌∷◌, ◌++◌, slice_index_or, slice_set, bit_and, bit_or, Fits, w8, w32, w64, Bor, MutBor}
-use Rattle.number.specs.Words.{high_word}
-use Rattle.remainder.specs.Kernel.{kernel_of}
-use Rattle.remainder.specs.Large.{scaled_of, pieces_of, jx_of, large_of}
+use mathlib.Core.Path.{refl}
+use Rattle.remainder.specs.Large.{jx_of}
 use Rattle.remainder.proofs.last_piece.Goals as goal
 
--- src/lib.rt:81:1
-pub returns-then-tx-clause-is : goal.returns-then-tx-clause-is
-returns-then-tx-clause-is c = ?
-
--- src/lib.rt:81:1
 pub returns-then-tx-2-clause-is : goal.returns-then-tx-2-clause-is
-returns-then-tx-2-clause-is c = ?
+unfolding jx_of
+returns-then-tx-2-clause-is c = rw (c.if-tx.true, c.if-tx-2.true) refl
 
--- src/lib.rt:81:1
 pub returns-else-tx-2-clause-is : goal.returns-else-tx-2-clause-is
-returns-else-tx-2-clause-is c = ?
+unfolding jx_of
+returns-else-tx-2-clause-is c = rw (c.if-tx.true, c.if-tx-2.false) refl
+
+pub returns-else-tx-clause-is : goal.returns-else-tx-clause-is
+unfolding jx_of
+returns-else-tx-clause-is c = rw c.if-tx.false refl

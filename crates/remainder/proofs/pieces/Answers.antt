@@ -1,9 +1,7 @@
-use Rattle.std.proofs.Common.{rules, ◌≡◌, ◌≤◌, ◌≤ℤ◌, pos, negsuc, ℕ, ◌+◌, ◌-◌, ◌*◌, ◌<◌, length, ◌/◌, ◌%◌, Bool, true, false, nat_eq, nat_lt, List, [], ◌∷◌, ◌++◌, slice_index_or, slice_set, bit_and, bit_or, Fits, w8, w32, w64, Bor, MutBor}
-use Rattle.number.specs.Words.{high_word}
-use Rattle.remainder.specs.Kernel.{kernel_of}
-use Rattle.remainder.specs.Large.{scaled_of, pieces_of, jx_of, large_of}
+use mathlib.Core.Path.{refl}
+use Rattle.remainder.specs.Large.{pieces_of}
 use Rattle.remainder.proofs.pieces.Goals as goal
 
--- src/lib.rt:71:1
 pub returns : goal.returns
-returns c = ?
+unfolding pieces_of
+returns c = rw (c.int-t1.ensures.is, c.int-t0.ensures.is) refl

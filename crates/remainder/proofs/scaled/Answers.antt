@@ -1,9 +1,8 @@
-use Rattle.std.proofs.Common.{rules, ◌≡◌, ◌≤◌, ◌≤ℤ◌, pos, negsuc, ℕ, ◌+◌, ◌-◌, ◌*◌, ◌<◌, length, ◌/◌, ◌%◌, Bool, true, false, nat_eq, nat_lt, List, [], ◌∷◌, ◌++◌, slice_index_or, slice_set, bit_and, bit_or, Fits, w8, w32, w64, Bor, MutBor}
-use Rattle.number.specs.Words.{high_word}
-use Rattle.remainder.specs.Kernel.{kernel_of}
-use Rattle.remainder.specs.Large.{scaled_of, pieces_of, jx_of, large_of}
+use mathlib.Core.Path.{refl}
+use lib.Bits.{and_mask}
+use Rattle.remainder.specs.Large.{scaled_of}
 use Rattle.remainder.proofs.scaled.Goals as goal
 
--- src/lib.rt:64:1
 pub returns : goal.returns
-returns c = ?
+unfolding scaled_of
+returns c = rw (c.from_bits.ensures, c.magnitude_bits.ensures, and_mask _ 52) refl

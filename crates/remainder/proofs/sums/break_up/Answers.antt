@@ -1,11 +1,18 @@
-use Rattle.std.proofs.Common.{rules, ◌≡◌, ◌≤◌, ◌<◌, ◌+◌, ◌≤ℤ◌, pos, negsuc, ℕ, ◌-◌, ◌*◌, length, ◌/◌, ◌%◌, Bool, true, false, nat_eq, nat_lt, List, [], ◌∷◌, ◌++◌, slice_index_or, slice_set, bit_and, bit_or, Fits, w8, w32, w64, Bor, MutBor, ℤ, ◌+ℤ◌, ◌-ℤ◌, ◌*ℤ◌, ◌<ℤ◌, FitsSigned, to_z, of_z}
-use Rattle.remainder.specs.Kernel.{chopped, chop_of, break_of, chopped_of, values_of, part_of, parts_of, down_of, up_of, by_half, compressed_of, finish_of}
+use mathlib.Core.Path.{◌≡◌, refl}
+use lib.IntN.{pos, ◌+ℤ◌}
+use mir.Syntax.{w32}
+use mir.Val.{to_z, of_z}
+use native.Mathlib.Omega.{arith}
+use Rattle.std.proofs.lemmas.Int.{ints, to_z-of_z}
+use Rattle.remainder.specs.Kernel.{break_of}
 use Rattle.remainder.proofs.sums.break_up.Goals as goal
 
--- src/sums.rt:35:1
 pub returns-then-z-clause-is : goal.returns-then-z-clause-is
-returns-then-z-clause-is c = ?
+unfolding break_of
+returns-then-z-clause-is c =
+    let up : to_z w32 (of_z w32 (to_z w32 (of_z w32 c.args.q0) +ℤ pos 24)) ≡ c.args.q0 +ℤ pos 24 = omega (arith, ints) in
+    rw (c.if-z.true, c.int-then-z.ensures.is, c.int.ensures.is, c.int-fw.ensures.is, up) refl
 
--- src/sums.rt:35:1
 pub returns-else-z-clause-is : goal.returns-else-z-clause-is
-returns-else-z-clause-is c = ?
+unfolding break_of
+returns-else-z-clause-is c = rw (c.if-z.false, c.int-else-z.ensures.is, to_z-of_z w32 _ c.ranges.q0) refl

@@ -1,0 +1,9 @@
+use mathlib.Core.Path.{◌≡◌, refl, ◌∙◌}
+use mir.Syntax.{w32}
+use Rattle.std.proofs.lemmas.Int.{to_z-of_z}
+use Rattle.remainder.specs.Kernel.{finish_of}
+use Rattle.remainder.proofs.sums.finish.Goals as goal
+
+pub returns : goal.returns
+unfolding finish_of
+returns c = c.compressed.ensures ∙ rw (c.parts.ensures, c.values.ensures) ?
