@@ -20,29 +20,29 @@ use Rattle.fdlibm.specs.Sine.{sin_at, cos_at, sin_of, cos_of}
 use Rattle.fdlibm.proofs.Laws.{sin_at_is, cos_at_is, in_reach_is}
 
 -- ---- the kernels
-module _ (z : Float) (u : Under 88 z) where
-  sin_series_lem : Under 356 (sin_series z)
+module _ (z : Float) (u : Under 134 z) where
+  sin_series_lem : Under 540 (sin_series z)
   unfolding of_bits
   sin_series_lem =
-      plus 355 tt tt tt (constant 0x3f8111111110f8a6 0 tt tt)
+      plus 539 tt tt tt (constant 0x3f8111111110f8a6 0 tt tt)
       (times tt u
-      (plus 266 tt tt tt (constant 0xbf2a01a019c161d5 0 tt tt)
+      (plus 404 tt tt tt (constant 0xbf2a01a019c161d5 0 tt tt)
       (times tt u
-      (plus 177 tt tt tt (constant 0x3ec71de357b1fe7d 0 tt tt)
-      (times tt u (plus 88 tt tt tt (constant 0xbe5ae5e68a2b9ceb 0 tt tt) (times tt u (constant 0x3de5d93a5acfd57c 0 tt tt))))))))
+      (plus 269 tt tt tt (constant 0x3ec71de357b1fe7d 0 tt tt)
+      (times tt u (plus 134 tt tt tt (constant 0xbe5ae5e68a2b9ceb 0 tt tt) (times tt u (constant 0x3de5d93a5acfd57c 0 tt tt))))))))
 
-  cos_series_lem : Under 533 (cos_series z)
+  cos_series_lem : Under 809 (cos_series z)
   unfolding of_bits
   cos_series_lem =
       times tt u
-      (plus 444 tt tt tt (constant 0x3fa555555555554c 0 tt tt)
+      (plus 674 tt tt tt (constant 0x3fa555555555554c 0 tt tt)
       (times tt u
-      (plus 355 tt tt tt (constant 0xbf56c16c16c15177 0 tt tt)
+      (plus 539 tt tt tt (constant 0xbf56c16c16c15177 0 tt tt)
       (times tt u
-      (plus 266 tt tt tt (constant 0x3efa01a019cb1590 0 tt tt)
+      (plus 404 tt tt tt (constant 0x3efa01a019cb1590 0 tt tt)
       (times tt u
-      (plus 177 tt tt tt (constant 0xbe927e4f809c52ad 0 tt tt)
-      (times tt u (plus 88 tt tt tt (constant 0x3e21ee9ebdb4b1c4 0 tt tt) (times tt u (constant 0xbda8fae9be8838d4 0 tt tt)))))))))))
+      (plus 269 tt tt tt (constant 0xbe927e4f809c52ad 0 tt tt)
+      (times tt u (plus 134 tt tt tt (constant 0x3e21ee9ebdb4b1c4 0 tt tt) (times tt u (constant 0xbda8fae9be8838d4 0 tt tt)))))))))))
 
 quarter_under : (ix : ℕ) → Under 1 (qx_of ix)
 unfolding qx_of of_bits
@@ -67,53 +67,54 @@ s1_under : Under 0 S1
 unfolding of_bits
 s1_under = constant 0xbfc5555555555549 0 tt tt
 
-module _ (x y : Float) (u : Under 44 x) (v : Under 44 y) where
-  z_under : Under 88 (x ⊗ x)
+-- of an angle and a tail of at most 2 ^ 67, which is what the reduction of a large angle leaves (`finish_under` of crate remainder)
+module _ (x y : Float) (u : Under 67 x) (v : Under 67 y) where
+  z_under : Under 134 (x ⊗ x)
   z_under = times tt u u
 
-  v_under : Under 132 (x ⊗ x ⊗ x)
+  v_under : Under 201 (x ⊗ x ⊗ x)
   v_under = times tt z_under u
 
-  r_under : Under 356 (sin_series (x ⊗ x))
+  r_under : Under 540 (sin_series (x ⊗ x))
   r_under = sin_series_lem (x ⊗ x) z_under
 
-  kernel_sin_under : (t : Bool) → Under 650 (kernel_sin x y t)
+  kernel_sin_under : (t : Bool) → Under 950 (kernel_sin x y t)
   unfolding kernel_sin
   kernel_sin_under t =
-      pick_is (Under 650) (ltb (high_word x) 0x3e400000) (lift 650 tt u)
-      (pick_is (Under 650) t
-      (lift 650 tt
-      (minus 579 tt tt tt u
-      (minus 578 tt tt tt
-      (minus 577 tt tt tt (times tt z_under (minus 488 tt tt tt (times tt half_under v) (times tt v_under r_under))) v)
+      pick_is (Under 950) (ltb (high_word x) 0x3e400000) (lift 950 tt u)
+      (pick_is (Under 950) t
+      (lift 950 tt
+      (minus 878 tt tt tt u
+      (minus 877 tt tt tt
+      (minus 876 tt tt tt (times tt z_under (minus 741 tt tt tt (times tt half_under v) (times tt v_under r_under))) v)
       (times tt v_under s1_under))))
-      (lift 650 tt (plus 577 tt tt tt u (times tt v_under (plus 444 tt tt tt s1_under (times tt z_under r_under))))))
+      (lift 950 tt (plus 876 tt tt tt u (times tt v_under (plus 674 tt tt tt s1_under (times tt z_under r_under))))))
 
-  rest_under : Under 622 (x ⊗ x ⊗ cos_series (x ⊗ x) ⊖ x ⊗ y)
-  rest_under = minus 621 tt tt tt (times tt z_under (cos_series_lem (x ⊗ x) z_under)) (times tt u v)
+  rest_under : Under 944 (x ⊗ x ⊗ cos_series (x ⊗ x) ⊖ x ⊗ y)
+  rest_under = minus 943 tt tt tt (times tt z_under (cos_series_lem (x ⊗ x) z_under)) (times tt u v)
 
-  kernel_cos_under : Under 650 (kernel_cos x y)
+  kernel_cos_under : Under 950 (kernel_cos x y)
   unfolding kernel_cos
   kernel_cos_under =
       let q = quarter_under (high_word x) in
       let h = times tt half_under z_under in
-      pick_is (Under 650) (ltb (high_word x) 0x3e400000) (lift 650 tt one_under)
-      (pick_is (Under 650) (ltb (high_word x) 0x3fd33333) (lift 650 tt (minus 623 tt tt tt one_under (minus 622 tt tt tt h rest_under)))
-      (lift 650 tt (minus 623 tt tt tt (minus 1 tt tt tt one_under q) (minus 622 tt tt tt (minus 88 tt tt tt h q) rest_under))))
+      pick_is (Under 950) (ltb (high_word x) 0x3e400000) (lift 950 tt one_under)
+      (pick_is (Under 950) (ltb (high_word x) 0x3fd33333) (lift 950 tt (minus 945 tt tt tt one_under (minus 944 tt tt tt h rest_under)))
+      (lift 950 tt (minus 945 tt tt tt (minus 1 tt tt tt one_under q) (minus 944 tt tt tt (minus 134 tt tt tt h q) rest_under))))
 
 -- ---- sine and cosine
 module _ (a : Reduction) (l : Left a) where
-  s_under : Under 650 (kernel_sin a.y0 a.y1 true)
-  s_under = kernel_sin_under a.y0 a.y1 l.0 l.1 true
+  s_under : Under 950 (kernel_sin a.y0 a.y1 true)
+  s_under = kernel_sin_under a.y0 a.y1 (lift 67 tt l.0) (lift 67 tt l.1) true
 
-  c_under : Under 650 (kernel_cos a.y0 a.y1)
-  c_under = kernel_cos_under a.y0 a.y1 l.0 l.1
+  c_under : Under 950 (kernel_cos a.y0 a.y1)
+  c_under = kernel_cos_under a.y0 a.y1 (lift 67 tt l.0) (lift 67 tt l.1)
 
-  sin_at_under : Under 650 (sin_at a)
-  sin_at_under = sin_at_is (Under 650) (λ x. neg_under) a s_under c_under
+  sin_at_under : Under 950 (sin_at a)
+  sin_at_under = sin_at_is (Under 950) (λ x. neg_under) a s_under c_under
 
-  cos_at_under : Under 650 (cos_at a)
-  cos_at_under = cos_at_is (Under 650) (λ x. neg_under) a s_under c_under
+  cos_at_under : Under 950 (cos_at a)
+  cos_at_under = cos_at_is (Under 950) (λ x. neg_under) a s_under c_under
 
 module _ (x : Float) (f : T (fits binary64 x)) (h : high_word x ≤ reach) where
   x_under : Under 21 x
@@ -123,14 +124,14 @@ module _ (x : Float) (f : T (fits binary64 x)) (h : high_word x ≤ reach) where
   unfolding sin_of
   sin_finite =
       under_finite
-      (pick_is (Under 650) (leb (high_word x) 0x3fe921fb) (kernel_sin_under x (bits 0) (lift 44 tt x_under) zero_under false)
-      (pick_is (Under 650) (leb 0x7ff00000 (high_word x)) (lift 650 tt (minus 21 tt tt tt x_under x_under))
-      (in_reach_is (Under 650) LeftOf sin_at sin_at_under (λ e. absurd e) (rem_pio2 x) (rem_under x h x_under))))
+      (pick_is (Under 950) (leb (high_word x) 0x3fe921fb) (kernel_sin_under x (bits 0) (lift 67 tt x_under) (lift 67 tt zero_under) false)
+      (pick_is (Under 950) (leb 0x7ff00000 (high_word x)) (lift 950 tt (minus 21 tt tt tt x_under x_under))
+      (in_reach_is (Under 950) LeftOf sin_at sin_at_under (λ e. absurd e) (rem_pio2 x) (rem_under x h x_under))))
 
   pub cos_finite : T (finite (cos_of x))
   unfolding cos_of
   cos_finite =
       under_finite
-      (pick_is (Under 650) (leb (high_word x) 0x3fe921fb) (kernel_cos_under x (bits 0) (lift 44 tt x_under) zero_under)
-      (pick_is (Under 650) (leb 0x7ff00000 (high_word x)) (lift 650 tt (minus 21 tt tt tt x_under x_under))
-      (in_reach_is (Under 650) LeftOf cos_at cos_at_under (λ e. absurd e) (rem_pio2 x) (rem_under x h x_under))))
+      (pick_is (Under 950) (leb (high_word x) 0x3fe921fb) (kernel_cos_under x (bits 0) (lift 67 tt x_under) (lift 67 tt zero_under))
+      (pick_is (Under 950) (leb 0x7ff00000 (high_word x)) (lift 950 tt (minus 21 tt tt tt x_under x_under))
+      (in_reach_is (Under 950) LeftOf cos_at cos_at_under (λ e. absurd e) (rem_pio2 x) (rem_under x h x_under))))

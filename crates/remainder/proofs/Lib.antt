@@ -2,3 +2,15 @@ pub mod Truncation
 pub mod Computing
 pub mod Examples
 pub mod Machin
+pub mod Approximation
+pub mod Far
+pub mod Weighing
+pub mod Distance
+pub mod Enough
+pub mod Exactly
+pub mod Distilling
+pub mod Passing
+pub mod Ending
+pub mod Angle
+pub mod Filled
+pub mod Bounded

@@ -11,7 +11,7 @@ use Rattle.number.specs.Helpers.{positive_zero, one, half}
 use Rattle.remainder.specs.declared.Reduction.{Reduction}
 use Rattle.remainder.specs.declared.digits.Pass.{Pass}
 use Rattle.remainder.specs.declared.sums.Held.{Held}
-use Rattle.remainder.specs.Machine.{double, int, floor, power, scalbn}
+use Rattle.remainder.specs.Machine.{double, int, floor, scalbn}
 use Rattle.remainder.specs.Tables.{jk, jp, two_over_pi, pio2}
 
 -- two24 and twon24

@@ -4,7 +4,6 @@
 #![tactic(auto)]
 
 pub mod machine; // (int), floor, scalbn
-
 mod digits;
 mod sums;
 mod table;
@@ -62,7 +61,7 @@ fn kernel(x: &[f64; 3], jx: usize, jv: usize, q0: i32) -> Reduction
         let Some(k) = digits::needed(&iq) else {
             return EXHAUSTED;
         };
-        if 19 < jx + jz + k {
+        if 19 - (jx + jz) < k {
             return EXHAUSTED;
         }
         digits::more(&mut f, &mut q, x, jx, jv, jz, k);

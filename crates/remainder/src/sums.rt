@@ -3,10 +3,9 @@
 ghost use Rattle.std.specs.Prelude.{◌≡◌, ◌≤◌, ◌<◌, ◌+◌, ◌≤ℤ◌, pos, negsuc};
 ghost use Rattle.remainder.specs.Kernel.{chopped, chop_of, break_of, chopped_of, values_of, part_of, parts_of, down_of, up_of, by_half, compressed_of, finish_of};
 
-use crate::Reduction;
 use crate::digits::{Pass, TWO24, TWON24};
 use crate::machine::{int, scalbn};
-use crate::table;
+use crate::{Reduction, table};
 
 // jz and q0 of k_rem_pio2.c.
 #[derive(Clone, Copy)]
@@ -145,7 +144,13 @@ fn compressed(fq: &[f64; 21], jz: usize, n: u32, ih: u32) -> Reduction
 }
 
 // The reduction, from the digits and n, ih, z.
-pub(crate) fn finish(iq: &mut [u32; 21], at: Pass, q: &mut [f64; 21], jz: usize, q0: i32) -> Reduction
+pub(crate) fn finish(
+    iq: &mut [u32; 21],
+    at: Pass,
+    q: &mut [f64; 21],
+    jz: usize,
+    q0: i32,
+) -> Reduction
     requires { (jz ≤ 19) × (negsuc 26 ≤ℤ q0) × (q0 ≤ℤ pos 2) }
     ensures { result ≡ finish_of iq.old at q.old jz q0 }
 {

@@ -1,4 +1,3 @@
-use borrow.Author.Tests.{eq-eqb, ne_eqb}
 use Rattle.remainder.specs.Kernel.{carried_of}
 use Rattle.remainder.proofs.digits.carried.Goals as goal
 

@@ -1,8 +1,7 @@
 -- Each iteration sets a digit.
-use mathlib.Core.Path.{◌≡◌, ap, refl}
+use mathlib.Core.Path.{refl}
 use borrow.Author.Tests.{lt-ltb, le-ltb}
 use Rattle.loops.proofs.Loop.{ranged_again, ranged_done}
-use Rattle.loops.proofs.Choice.{pick_taken, pick_left}
 use Rattle.remainder.specs.Kernel.{digit_of}
 use Rattle.remainder.proofs.digits.first_digits.Goals as goal
 use Rattle.remainder.proofs.digits.first_digits.Goals.{then-jv-i, else-jv-i}

@@ -1,6 +1,6 @@
 -- Each iteration joins a digit.
 use mathlib.Core.Path.{◌≡◌}
-use Prim.Native.Nat.{◌+◌, ◌-◌}
+use Prim.Native.Nat.{◌-◌}
 use Rattle.loops.specs.Loop.{ranged}
 use Rattle.remainder.specs.Kernel.{digit_joined, joined_of}
 use Rattle.remainder.proofs.digits.joined.Given as goal

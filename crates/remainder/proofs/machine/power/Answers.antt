@@ -11,7 +11,6 @@ use lib.Ieee.Bits.{nan_bits_above}
 use mir.Syntax.{w32}
 use mir.Val.{to_z, of_z}
 use Rattle.std.proofs.lemmas.Int.{ints}
-use Rattle.remainder.specs.Machine.{power}
 use Rattle.remainder.proofs.machine.power.Goals as goal
 
 -- the exponent's field of 2 ^ n

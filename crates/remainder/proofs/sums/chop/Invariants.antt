@@ -1,7 +1,7 @@
 -- Each iteration passes a digit that is 0.
 use mathlib.Core.Path.{◌≡◌}
 use Prim.Native.Nat.{◌-◌, ◌*◌, ◌+◌}
-use lib.IntN.{pos, ◌-ℤ◌, ◌+ℤ◌}
+use lib.IntN.{pos, ◌+ℤ◌}
 use Rattle.loops.specs.Loop.{on, searched}
 use Rattle.remainder.specs.Kernel.{chop_step, chop_end, chop_of}
 use Rattle.remainder.proofs.sums.chop.Given as goal
