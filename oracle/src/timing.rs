@@ -68,20 +68,24 @@ fn hardware_sqrt(x: f64) -> f64 {
     x.sqrt()
 }
 
-/// Square roots, sines and cosines of 4,096 numbers, arc tangents of as many pairs, in calls that do not wait for each other.
+/// Square roots, sines and cosines of 4,096 numbers, sines and cosines of as many large angles, arc tangents of as many pairs, in calls that
+/// do not wait for each other.
 fn numbers(rounds: u32) {
     let mut r = Random::new(11);
     let mut some =
         |low: i32, high: i32| -> Vec<f64> { (0..4096).map(|_| r.scaled(low, high)).collect() };
     let (roots, angles, other) = (some(-200, 200), some(-8, 4), some(-8, 4));
+    let large = some(21, 1023);
     let roots: Vec<f64> = roots.into_iter().map(f64::abs).collect();
     let sum = |f: One, of: &[f64]| {
         black_box(of.iter().map(|x| black_box(f)(*x)).sum::<f64>());
     };
-    let calls: [(&str, One, One, &[f64]); 3] = [
+    let calls: [(&str, One, One, &[f64]); 5] = [
         ("sqrt", |x| capi::geomcore_sqrt(x), hardware_sqrt, &roots),
         ("sin", |x| capi::geomcore_sin(x), ours::sin, &angles),
         ("cos", |x| capi::geomcore_cos(x), ours::cos, &angles),
+        ("sin, large", |x| capi::geomcore_sin(x), ours::sin, &large),
+        ("cos, large", |x| capi::geomcore_cos(x), ours::cos, &large),
     ];
     table("function, a call");
     for (name, f, g, of) in calls {

@@ -1,6 +1,7 @@
 //! The check: traces of the oracle, whole and damaged, and traces laid by hand on two planes; the answers, the comparison, the fixed list.
 
 use super::jobs::{call, nudged, spoil_bytes};
+use super::marching::turns;
 use super::trace::{JOB, padded, put};
 use super::word;
 use crate::intersect::marching::Chords;
@@ -228,9 +229,10 @@ fn repeat(c: &mut Claim, i: usize) {
     }
 }
 
-/// Whole turns to every parameter, which only marked angles do not mind.
+/// Whole turns to every parameter, some or many, which only marked angles do not mind.
 fn turn_all(r: &mut Random, c: &mut Claim) {
-    let (k, turns) = (r.below(4), TAU * (1 + r.below(3)) as f64);
+    let (k, some, many) = (r.below(4), TAU * (1 + r.below(3)) as f64, turns(r));
+    let turns = if r.one_in(3) { many } else { some };
     for i in 0..c.count as usize {
         c.trace[WIDTH * i + 3 + k] += turns;
         refresh(c, i);

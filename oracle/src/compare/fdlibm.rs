@@ -1,16 +1,19 @@
 //! The sine, cosine and arc tangent of two arguments that the oracle gets, against the proved ones.
 
-use super::surface::parameter;
+use super::surface::{large, parameter};
 use super::word;
 use crate::random::Random;
 use crate::{capi, ours};
 
-/// Compares `count` arguments of each function. Returns how many differ.
+/// Compares `count` arguments of each function, every other angle a large one. Returns how many differ.
 pub fn compare(seed: u64, count: u64) -> u64 {
     let mut r = Random::new(seed);
     let mut differ = [0u64; 3];
-    for _ in 0..count {
-        let (x, y) = (parameter(&mut r), parameter(&mut r));
+    for i in 0..count {
+        let (mut x, y) = (parameter(&mut r), parameter(&mut r));
+        if i % 2 == 1 {
+            x = large(&mut r);
+        }
         let pairs = [
             (ours::sin(x), capi::geomcore_sin(x)),
             (ours::cos(x), capi::geomcore_cos(x)),

@@ -1,6 +1,6 @@
 //! Generated jobs for the trace and the check, with the buffer lent.
 
-use super::marching::{is_angle, pair, through};
+use super::marching::{is_angle, pair, through, turns};
 use crate::intersect::marching::Chords;
 use crate::job::{BYTES, Job, Side};
 use crate::random::Random;
@@ -10,7 +10,7 @@ use std::f64::consts::TAU;
 use std::io::{self, Write};
 
 /// The kinds of job, by name.
-pub(super) const KINDS: [&str; 16] = [
+pub(super) const KINDS: [&str; 17] = [
     "near a meeting",
     "a window's end near",
     "wide windows and marks",
@@ -27,6 +27,7 @@ pub(super) const KINDS: [&str; 16] = [
     "at refusals' boundaries",
     "job file",
     "strides lost in rounding",
+    "many turns out",
 ];
 
 /// A job as its bytes, and the buffer lent, filled with distinct numbers.
@@ -132,6 +133,23 @@ fn near(r: &mut Random, kind: usize, kinds: [usize; 2]) -> Job {
         guess,
         cap: cap(r),
     }
+}
+
+/// The guess, and windows that apply, many turns out on the angles.
+fn wound(r: &mut Random, kinds: [usize; 2]) -> Job {
+    let like = r.pick(&[0, 1, 2]);
+    let mut job = near(r, like, kinds);
+    for k in 0..4 {
+        let s = if k < 2 { &mut job.a } else { &mut job.b };
+        if is_angle(s.kind.into(), k % 2) {
+            let out = turns(r);
+            job.guess[k] += out;
+            for end in &mut s.numbers[14 + 2 * (k % 2)..16 + 2 * (k % 2)] {
+                *end += out;
+            }
+        }
+    }
+    job
 }
 
 /// Small surfaces with every angle marked and no other window, so that lines close.
@@ -358,6 +376,7 @@ pub(super) fn call(r: &mut Random, index: u64) -> Call {
         10 => loops(r, kinds),
         11 => just_missed(r, kinds),
         15 => lost(r),
+        16 => wound(r, kinds),
         _ => {
             let like = r.pick(&[0, 1, 2, 9]);
             near(r, like, kinds)

@@ -10,7 +10,7 @@ use std::f64::consts::{FRAC_PI_2, PI, TAU};
 use std::io::{self, Write};
 
 /// The kinds of call, by name.
-const KINDS: [&str; 12] = [
+const KINDS: [&str; 13] = [
     "guess near a meeting",
     "near, a window's end in between",
     "near, wide windows and marks",
@@ -23,6 +23,7 @@ const KINDS: [&str; 12] = [
     "whole numbers and halves",
     "hostile numbers",
     "landing off the pin's window",
+    "many turns out",
 ];
 
 /// The functions, by name; a pin is drawn for each landing.
@@ -225,6 +226,12 @@ fn tolerance(r: &mut Random) -> Tolerance {
     }
 }
 
+/// Whole turns, so many that the angle is a large one.
+pub(super) fn turns(r: &mut Random) -> f64 {
+    let high = r.pick(&[20, 24, 30, 60]);
+    TAU * r.scaled(18, high).trunc()
+}
+
 /// Eighths from -2 to 2, so that fractions tie.
 fn eighth(r: &mut Random) -> f64 {
     (r.below(33) as f64 - 16.0) / 8.0
@@ -404,7 +411,18 @@ fn spoil(r: &mut Random, c: &mut Call) {
 fn call(r: &mut Random, index: u64, step: usize) -> Call {
     let kind = r.below(KINDS.len());
     let pair_index = (index % 25) as usize;
-    let (a, b, at, off) = pair(r, kind, [pair_index / 5, pair_index % 5]);
+    let (mut a, mut b, mut at, off) = pair(r, kind, [pair_index / 5, pair_index % 5]);
+    if kind == 12 {
+        for (k, x) in at.iter_mut().enumerate() {
+            let s = if k < 2 { &mut a } else { &mut b };
+            if is_angle(s.kind, k % 2) {
+                let out = turns(r);
+                *x += out;
+                s.windows[k % 2].0 += out;
+                s.windows[k % 2].1 += out;
+            }
+        }
+    }
     let mut x = at.map(|v| v + off * r.signed_unit());
     if kind == 2 && r.one_in(2) {
         // Turns off, where that does not matter.

@@ -102,7 +102,31 @@ fn size(r: &mut Random) -> f64 {
     }
 }
 
-/// An angle or a height: ordinary, near quarter turns, around the end of the reach and beyond it, and hostile.
+/// Large angles: five of the nearest to quarter turns, the nearest of all first, and others.
+const LARGE: [f64; 8] = [
+    5.319_372_648_326_541e255,
+    14_461_176.670_278_38,
+    3.576_149_729_694_266e39,
+    3.924_293_714_572_882e298,
+    6.426_511_099_577_231e173,
+    8.988_465_674_311_58e307,
+    1e22,
+    f64::MAX,
+];
+
+/// A large angle, one that fdlibm reduces by the digits of 2/pi: of any exponent, near a quarter turn, or one of those above.
+pub(super) fn large(r: &mut Random) -> f64 {
+    match r.below(5) {
+        0 => r.pick(&LARGE) * r.pick(&[1.0, -1.0]),
+        1 | 2 => {
+            let quarter = FRAC_PI_2 * r.scaled(20, 1022).trunc();
+            f64::from_bits(quarter.to_bits() - 2 + r.below(5) as u64)
+        }
+        _ => r.scaled(21, 1023),
+    }
+}
+
+/// An angle or a height: ordinary, near quarter turns, where large angles begin, large, and hostile.
 pub(super) fn parameter(r: &mut Random) -> f64 {
     match r.below(12) {
         0 => r.pick(&SPECIAL),
@@ -114,8 +138,8 @@ pub(super) fn parameter(r: &mut Random) -> f64 {
             f64::from_bits(quarter.to_bits().wrapping_add(r.below(5) as u64))
         }
         5 => f64::from_bits(0x4139_21fb_ffff_fffd + r.below(6) as u64) * r.pick(&[1.0, -1.0]),
-        6 => r.scaled(20, 1023),
-        7 => f64::from_bits(r.bits() & 0x800f_ffff_ffff_ffff),
+        6 | 7 => large(r),
+        8 => f64::from_bits(r.bits() & 0x800f_ffff_ffff_ffff),
         _ => 7.0 * r.signed_unit(),
     }
 }
