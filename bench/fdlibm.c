@@ -1,5 +1,6 @@
 // The same algorithms as crates/fdlibm in C, as the yardstick of the benchmark only: nothing links it but bench/speed_fdlibm.c.
-// Algorithm and constants are fdlibm 5.3's (docs/parts/fdlibm.md has its notice).
+// Algorithm and constants are fdlibm 5.3's (docs/parts/fdlibm.md has its notice), its scalbn and floor too; of the C library it calls fabs
+// alone.
 #include <math.h>
 #include <stdint.h>
 #include <string.h>
@@ -54,7 +55,168 @@ static const uint32_t table[32] = {
 static const double pio2_1 = 1.57079632673412561417e+00, pio2_1t = 6.07710050650619224932e-11, pio2_2 = 6.07710050630396597660e-11,
     pio2_2t = 2.02226624879595063154e-21, pio2_3 = 2.02226624871116645580e-21, pio2_3t = 8.47842766036889956997e-32;
 
-// The quadrant in the two low bits, or -1 beyond reach.
+static const int32_t two_over_pi[66] = {
+    0xa2f983, 0x6e4e44, 0x1529fc, 0x2757d1, 0xf534dd, 0xc0db62, 0x95993c, 0x439041, 0xfe5163, 0xabdebb, 0xc561b7,
+    0x246e3a, 0x424dd2, 0xe00649, 0x2eea09, 0xd1921c, 0xfe1deb, 0x1cb129, 0xa73ee8, 0x8235f5, 0x2ebb44, 0x84e99c,
+    0x7026b4, 0x5f7e41, 0x3991d6, 0x398353, 0x39f49c, 0x845f8b, 0xbdf928, 0x3b1ff8, 0x97ffde, 0x05980f, 0xef2f11,
+    0x8b5a0a, 0x6d1f6d, 0x367ecf, 0x27cb09, 0xb74f46, 0x3f669e, 0x5fea2d, 0x7527ba, 0xc7ebe5, 0xf17b3d, 0x0739f7,
+    0x8a5292, 0xea6bfb, 0x5fb11f, 0x8d5d08, 0x560330, 0x46fc7b, 0x6babf0, 0xcfbc20, 0x9af436, 0x1da9e3, 0x91615e,
+    0xe61b08, 0x659985, 0x5f14a0, 0x68408d, 0xffd880, 0x4d7327, 0x310606, 0x1556ca, 0x73a8c9, 0x60e27b, 0xc08c6b,
+};
+static const double pio2[] = {1.57079625129699707031e+00, 7.54978941586159635335e-08, 5.39030252995776476554e-15,
+    3.28200341580791294123e-22, 1.27065575308067607349e-29};
+static const double two24 = 16777216.0, twon24 = 5.96046447753906250000e-08;
+
+// fdlibm's scalbn, of zero and of normal numbers that stay normal.
+static double scaled(double x, int n) {
+    uint64_t b = bits_of(x);
+    return b << 1 == 0 ? x : of_bits(b + ((uint64_t)(int64_t)n << 52));
+}
+
+// fdlibm's floor, of numbers that are not negative.
+static double whole(double x) {
+    uint64_t b = bits_of(x);
+    int e = (int)(b >> 52) - 1023;
+    return e < 0 ? 0.0 : e > 51 ? x : of_bits(b & ~(0x000fffffffffffffu >> e));
+}
+
+// __kernel_rem_pio2 with prec 2.
+static int kernel_rem_pio2(const double *x, double *y, int e0, int nx) {
+    enum { jk = 4, jp = jk };
+    int jx = nx - 1, jv = e0 < 3 ? 0 : (e0 - 3) / 24, q0 = e0 - 24 * (jv + 1), jz = jk, iq[20], n, ih, carry, i, j, k;
+    double f[20], q[20], fq[20], z, fw;
+    for (i = 0, j = jv - jx; i <= jx + jk; i++, j++) {
+        f[i] = j < 0 ? 0.0 : (double)two_over_pi[j];
+    }
+    for (i = 0; i <= jk; i++) {
+        for (j = 0, fw = 0.0; j <= jx; j++) {
+            fw += x[j] * f[jx + i - j];
+        }
+        q[i] = fw;
+    }
+recompute:
+    for (i = 0, j = jz, z = q[jz]; j > 0; i++, j--) {
+        fw = (double)(int)(twon24 * z);
+        iq[i] = (int)(z - two24 * fw);
+        z = q[j - 1] + fw;
+    }
+    z = scaled(z, q0);
+    z -= 8.0 * whole(z * 0.125);
+    n = (int)z;
+    z -= (double)n;
+    ih = 0;
+    if (q0 > 0) {
+        i = iq[jz - 1] >> (24 - q0);
+        n += i;
+        iq[jz - 1] -= i << (24 - q0);
+        ih = iq[jz - 1] >> (23 - q0);
+    } else if (q0 == 0) {
+        ih = iq[jz - 1] >> 23;
+    } else if (z >= 0.5) {
+        ih = 2;
+    }
+    if (ih > 0) {
+        n++;
+        carry = 0;
+        for (i = 0; i < jz; i++) {
+            j = iq[i];
+            if (carry) {
+                iq[i] = 0xffffff - j;
+            } else if (j != 0) {
+                carry = 1;
+                iq[i] = 0x1000000 - j;
+            }
+        }
+        if (q0 == 1) {
+            iq[jz - 1] &= 0x7fffff;
+        } else if (q0 == 2) {
+            iq[jz - 1] &= 0x3fffff;
+        }
+        if (ih == 2) {
+            z = 1.0 - z;
+            if (carry) {
+                z -= scaled(1.0, q0);
+            }
+        }
+    }
+    if (z == 0.0) {
+        for (i = jz - 1, j = 0; i >= jk; i--) {
+            j |= iq[i];
+        }
+        if (j == 0) {
+            for (k = 1; iq[jk - k] == 0; k++) {
+            }
+            for (i = jz + 1; i <= jz + k; i++) {
+                f[jx + i] = (double)two_over_pi[jv + i];
+                for (j = 0, fw = 0.0; j <= jx; j++) {
+                    fw += x[j] * f[jx + i - j];
+                }
+                q[i] = fw;
+            }
+            jz += k;
+            goto recompute;
+        }
+        for (jz--, q0 -= 24; iq[jz] == 0; jz--) {
+            q0 -= 24;
+        }
+    } else {
+        z = scaled(z, -q0);
+        if (z >= two24) {
+            fw = (double)(int)(twon24 * z);
+            iq[jz] = (int)(z - two24 * fw);
+            jz++;
+            q0 += 24;
+            iq[jz] = (int)fw;
+        } else {
+            iq[jz] = (int)z;
+        }
+    }
+    fw = scaled(1.0, q0);
+    for (i = jz; i >= 0; i--) {
+        q[i] = fw * (double)iq[i];
+        fw *= twon24;
+    }
+    for (i = jz; i >= 0; i--) {
+        for (fw = 0.0, k = 0; k <= jp && k <= jz - i; k++) {
+            fw += pio2[k] * q[i + k];
+        }
+        fq[jz - i] = fw;
+    }
+    for (fw = 0.0, i = jz; i >= 0; i--) {
+        fw += fq[i];
+    }
+    y[0] = ih == 0 ? fw : -fw;
+    fw = fq[0] - fw;
+    for (i = 1; i <= jz; i++) {
+        fw += fq[i];
+    }
+    y[1] = ih == 0 ? fw : -fw;
+    return n & 7;
+}
+
+// The last branch of __ieee754_rem_pio2.
+static int reduce_large(double x, double *y) {
+    uint64_t b = bits_of(x) << 1 >> 1;
+    int e0 = (int)(b >> 52) - 1046, nx = 3;
+    double tx[3], z = of_bits(b - ((uint64_t)(int64_t)e0 << 52));
+    for (int i = 0; i < 2; i++) {
+        tx[i] = (double)(int)z;
+        z = (z - tx[i]) * two24;
+    }
+    tx[2] = z;
+    while (tx[nx - 1] == 0.0) {
+        nx--;
+    }
+    int n = kernel_rem_pio2(tx, y, e0, nx);
+    if (x < 0) {
+        y[0] = -y[0];
+        y[1] = -y[1];
+        return -n & 3;
+    }
+    return n & 3;
+}
+
+// The quadrant, 0 to 3.
 static int reduce(double x, double *y) {
     uint32_t ix = high(x);
     int negative = bits_of(x) >> 63;
@@ -69,7 +231,7 @@ static int reduce(double x, double *y) {
         return negative ? 3 : 1;
     }
     if (ix > 0x413921fb) {
-        return -1;
+        return reduce_large(x, y);
     }
     double t = fabs(x);
     int n = (int)(t * 6.36619772367581382433e-01 + 0.5);
@@ -117,10 +279,8 @@ double c_sin(double x) {
         return kernel_cos(y[0], y[1]);
     case 2:
         return -kernel_sin(y[0], y[1], 1);
-    case 3:
-        return -kernel_cos(y[0], y[1]);
     default:
-        return NAN;
+        return -kernel_cos(y[0], y[1]);
     }
 }
 
@@ -140,10 +300,8 @@ double c_cos(double x) {
         return -kernel_sin(y[0], y[1], 1);
     case 2:
         return -kernel_cos(y[0], y[1]);
-    case 3:
-        return kernel_sin(y[0], y[1], 1);
     default:
-        return NAN;
+        return kernel_sin(y[0], y[1], 1);
     }
 }
 

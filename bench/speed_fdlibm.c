@@ -73,10 +73,26 @@ static int same(double a, double b) {
 
 static int failed;
 
-static void row(const char *name, const char *range, double scale, one ours, one built, one libm) {
+// Arguments up to scale in magnitude.
+static void within(double scale) {
     state = 1;
     for (int i = 0; i < COUNT; i++) {
         xs[i] = uniform() * scale;
+    }
+}
+
+// Arguments of the exponents from low to high, each as often.
+static void exponents(int low, int high) {
+    state = 1;
+    for (int i = 0; i < COUNT; i++) {
+        int exponent = low + (int)((uniform() + 1) / 2 * (high - low + 1));
+        double x = uniform();
+        xs[i] = ldexp(x < 0 ? x - 1 : x + 1, exponent);
+    }
+}
+
+static void row(const char *name, const char *range, one ours, one built, one libm) {
+    for (int i = 0; i < COUNT; i++) {
         failed |= !same(ours(xs[i]), built(xs[i]));
     }
     double a = time_one(ours), b = time_one(built), c = time_one(libm);
@@ -85,14 +101,24 @@ static void row(const char *name, const char *range, double scale, one ours, one
 
 int main(void) {
     printf("%-6s %-16s %8s %8s %8s %8s\n", "", "arguments", "ours ns", "C ns", "libm ns", "ours/C");
-    row("sin", "within pi/4", 0.785, geomcore_sin, c_sin, sin);
-    row("sin", "within 10", 10, geomcore_sin, c_sin, sin);
-    row("sin", "within 800000", 800000, geomcore_sin, c_sin, sin);
-    row("cos", "within pi/4", 0.785, geomcore_cos, c_cos, cos);
-    row("cos", "within 10", 10, geomcore_cos, c_cos, cos);
-    row("cos", "within 800000", 800000, geomcore_cos, c_cos, cos);
-    row("atan", "within 0.4", 0.4, ours_atan, c_atan, atan);
-    row("atan", "within 10", 10, ours_atan, c_atan, atan);
+    one ours[] = {geomcore_sin, geomcore_cos}, built[] = {c_sin, c_cos}, libm[] = {sin, cos};
+    for (int k = 0; k < 2; k++) {
+        const char *name = k ? "cos" : "sin";
+        within(0.785);
+        row(name, "within pi/4", ours[k], built[k], libm[k]);
+        within(10);
+        row(name, "within 10", ours[k], built[k], libm[k]);
+        within(800000);
+        row(name, "within 800000", ours[k], built[k], libm[k]);
+        exponents(21, 61);
+        row(name, "2^21 to 2^61", ours[k], built[k], libm[k]);
+        exponents(21, 1023);
+        row(name, "2^21 to 2^1023", ours[k], built[k], libm[k]);
+    }
+    within(0.4);
+    row("atan", "within 0.4", ours_atan, c_atan, atan);
+    within(10);
+    row("atan", "within 10", ours_atan, c_atan, atan);
     state = 1;
     for (int i = 0; i < COUNT; i++) {
         xs[i] = uniform();
