@@ -3,31 +3,28 @@
 //   java StrictMathAnswers.java list                     the fixed list that the gate replays (`| tools/lists.py put fdlibm -`)
 //   java StrictMathAnswers.java stream FUNCTION SEED N   N random records of one function: sin, cos, atan or atan2
 //
-// A record of the list is y, x and the bits of sin(x), cos(x), atan(x) and atan2(y, x). Beyond reach, where our sine and
-// cosine are NaN, the mark 7ff8000000000001 stands for them; every other NaN is 7ff8000000000000. A record of a stream is the
-// argument (atan2: y, then x) and StrictMath's own answer everywhere. The counts go to standard error.
+// A record of the list is y, x and the bits of sin(x), cos(x), atan(x) and atan2(y, x); every NaN is 7ff8000000000000. A record of a
+// stream is the argument (atan2: y, then x) and the answer. How many records there are goes to standard error.
 import java.io.BufferedOutputStream;
 import java.io.DataOutputStream;
 import java.io.IOException;
+import java.math.BigInteger;
 import java.util.SplittableRandom;
 
 public class StrictMathAnswers {
-    static final long BEYOND = 0x7ff8000000000001L;
     static final long SIGN = 0x8000000000000000L;
     static final long INFINITY = 0x7ff0000000000000L;
-    static final int LAST_IN_REACH = 0x413921fb;
 
     // The high words at which a case of the four functions begins or ends.
     static final int[] HIGH_WORDS = {
         0x00000000, 0x00080000, 0x00100000, 0x3e200000, 0x3e400000, 0x3fd33333, 0x3fdc0000, 0x3fe00000, 0x3fe60000,
         0x3fe90000, 0x3fe921fb, 0x3ff00000, 0x3ff30000, 0x3ff921fb, 0x4002d97c, 0x40038000, 0x400921fb, 0x404858eb,
-        0x404921fb, 0x41300000, LAST_IN_REACH, 0x41400000, 0x44100000, 0x7fe00000, 0x7ff00000,
+        0x404921fb, 0x41300000, 0x413921fb, 0x41400000, 0x44100000, 0x7fe00000, 0x7ff00000,
     };
 
     static String function;
     static DataOutputStream out;
     static long written = 0;
-    static long beyond = 0;
 
     static double answer(double y, double x) {
         switch (function) {
@@ -46,16 +43,10 @@ public class StrictMathAnswers {
         return function.equals("atan2");
     }
 
-    static boolean beyondReach(long x) {
-        return (x & ~SIGN) >>> 32 > LAST_IN_REACH && (x & ~SIGN) < INFINITY;
-    }
-
     // A record of a stream.
     static void write(long y, long x) throws IOException {
         if (two()) {
             out.writeLong(y);
-        } else if (!function.equals("atan") && beyondReach(x)) {
-            beyond++;
         }
         out.writeLong(x);
         out.writeLong(Double.doubleToLongBits(answer(Double.longBitsToDouble(y), Double.longBitsToDouble(x))));
@@ -68,14 +59,11 @@ public class StrictMathAnswers {
         double u = Double.longBitsToDouble(x);
         out.writeLong(y);
         out.writeLong(x);
-        out.writeLong(beyondReach(x) ? BEYOND : Double.doubleToLongBits(StrictMath.sin(u)));
-        out.writeLong(beyondReach(x) ? BEYOND : Double.doubleToLongBits(StrictMath.cos(u)));
+        out.writeLong(Double.doubleToLongBits(StrictMath.sin(u)));
+        out.writeLong(Double.doubleToLongBits(StrictMath.cos(u)));
         out.writeLong(Double.doubleToLongBits(StrictMath.atan(u)));
         out.writeLong(Double.doubleToLongBits(StrictMath.atan2(v, u)));
         written++;
-        if (beyondReach(x)) {
-            beyond++;
-        }
     }
 
     static long last = 0;
@@ -159,11 +147,114 @@ public class StrictMathAnswers {
         }
     }
 
+    // The exponents of large angles, those that fdlibm reduces by the digits of 2/pi: the least, and the first that none has.
+    static final int LARGE = 20;
+    static final int LARGEST = 1024;
+
+    // pi and 2/pi, times 2^BITS.
+    static final int BITS = 1300;
+    static final BigInteger ONE = BigInteger.ONE.shiftLeft(BITS);
+    static final BigInteger PI = arctan(5).shiftLeft(2).subtract(arctan(239)).shiftLeft(2);
+    static final BigInteger TWO_OVER_PI = ONE.shiftLeft(BITS + 1).divide(PI);
+
+    // The arc tangent of 1/n, times 2^BITS.
+    static BigInteger arctan(int n) {
+        BigInteger term = ONE.divide(BigInteger.valueOf(n));
+        BigInteger sum = term;
+        for (int k = 3; term.signum() != 0; k += 2) {
+            term = term.divide(BigInteger.valueOf(-n * n));
+            sum = sum.add(term.divide(BigInteger.valueOf(k)));
+        }
+        return sum;
+    }
+
+    // The number nearest to n times pi/2.
+    static long multiple(BigInteger n) {
+        BigInteger product = n.multiply(PI);
+        int below = product.bitLength() - 128;
+        return Double.doubleToLongBits(Math.scalb(product.shiftRight(below).doubleValue(), below - BITS - 1));
+    }
+
+    // Near a random multiple of pi/2, of a random size.
+    static long nearMultiple(SplittableRandom random) {
+        BigInteger n = BigInteger.ZERO;
+        for (int k = 0; k < 16; k++) {
+            n = n.shiftLeft(64).add(BigInteger.valueOf(random.nextLong() >>> 1));
+        }
+        return multiple(n.shiftRight(n.bitLength() - random.nextInt(LARGE + 1, 1001)));
+    }
+
+    // The whole number below 2^53 that 2^exponent takes nearest to a multiple of pi/2, times that: the last convergent of 2^exponent times
+    // 2/pi whose denominator is below 2^53.
+    static long hardest(int exponent) {
+        BigInteger before = ONE;
+        BigInteger left = TWO_OVER_PI.shiftLeft(exponent).mod(ONE);
+        BigInteger last = BigInteger.ZERO;
+        BigInteger whole = BigInteger.ONE;
+        while (true) {
+            BigInteger[] step = before.divideAndRemainder(left);
+            BigInteger next = last.add(step[0].multiply(whole));
+            if (next.bitLength() > 53) {
+                return Double.doubleToLongBits(Math.scalb(whole.doubleValue(), exponent));
+            }
+            before = left;
+            left = step[1];
+            last = whole;
+            whole = next;
+        }
+    }
+
+    // A number of this exponent whose digits of 24 bits are 0 behind the first (1), behind the second (2), or but for its last bits (3); a
+    // power of two (0).
+    static long someBits(SplittableRandom random, int exponent, int which) {
+        long[] kept = {0, -1L << 29, -1L << 5, ~(-1L << 29)};
+        return random.nextLong() & SIGN | 1023L + exponent << 52 | random.nextLong() >>> 12 & kept[which];
+    }
+
+    // Large angles: every power of two and every exponent with digits of 0; the neighbours of the powers at which fdlibm's e0 comes to the
+    // next digit of 2/pi as its first, and q0 to -1, 0, 1 and 2; the nearest to multiples of pi/2, of every exponent and of random multiples.
+    static void listLarge(SplittableRandom random) throws IOException {
+        for (int exponent = LARGE; exponent < LARGEST; exponent++) {
+            long power = someBits(random, exponent, 0);
+            one(power);
+            one(someBits(random, exponent, random.nextInt(1, 4)));
+            int place = (exponent - 23) % 24;
+            if (exponent >= 46 && (place == 23 || place <= 3)) {
+                one(power - 1);
+                one(power + 1);
+            }
+        }
+        for (int exponent = LARGE - 52; exponent < LARGEST - 52; exponent++) {
+            one(hardest(exponent) | random.nextLong() & SIGN);
+        }
+        for (int i = 0; i < 50; i++) {
+            around(nearMultiple(random));
+        }
+        for (double x : new double[] {1e22, 1e300, 6381956970095103.0 * 0x1p797, Double.MAX_VALUE}) {
+            around(Double.doubleToLongBits(x));
+        }
+    }
+
     static long withExponent(SplittableRandom random, int low, int high) {
         return (random.nextLong() & ~INFINITY) | ((long) (1023 + random.nextInt(low, high)) << 52);
     }
 
+    // As many large angles as others, and any bits.
     static long randomAngle(SplittableRandom random) {
+        if (random.nextBoolean()) {
+            switch (random.nextInt(8)) {
+                case 0:
+                    return hardest(random.nextInt(LARGE - 52, LARGEST - 52)) + random.nextInt(-1, 2);
+                case 1:
+                case 2:
+                case 3:
+                    return nearMultiple(random) + random.nextInt(-3, 4) | random.nextLong() & SIGN;
+                case 4:
+                    return someBits(random, random.nextInt(LARGE, LARGEST), random.nextInt(4));
+                default:
+                    return withExponent(random, LARGE, LARGEST);
+            }
+        }
         switch (random.nextInt(8)) {
             case 0:
                 return random.nextLong();
@@ -205,8 +296,9 @@ public class StrictMathAnswers {
         } else {
             listOne(new SplittableRandom(1));
             listTwo(new SplittableRandom(2));
+            listLarge(new SplittableRandom(3));
         }
         out.flush();
-        System.err.println(written + " records, " + beyond + " beyond reach");
+        System.err.println(written + " records");
     }
 }

@@ -41,7 +41,7 @@ run() {
             rest = substr($0, RSTART + RLENGTH)
             row(what, word[1], word[words - 1], match(rest, /\(.*\)/) ? substr(rest, RSTART + 1, RLENGTH - 2) : "")
         }
-        name == "strictmath" && NF == 4 && $2 ~ /^[0-9]+$/ { row($1 " against StrictMath", $2, $4, $3 > 0 ? $3 " beyond reach" : "") }
+        name == "strictmath" && NF == 4 && $2 ~ /^[0-9]+$/ { row($1 " against StrictMath", $2, $4, $3 > 0 ? $3 " large angles" : "") }
         END { if (!rows) { print "| " name " | none | - | |"; exit 1 } }' "$out/$name" || status=1
     [ -z "${failed:-}" ] || echo "$name failed: see $out/$name"
     failed=

@@ -22,7 +22,7 @@ DOCUMENTS = ['README.md', 'NOTICE', *sorted({*glob.glob('docs/*.md')} - {'docs/P
 PATH = re.compile(r'(?<![\w/.-])((?:[\w.-]+/)+[\w.-]*\w)')
 WORD = re.compile(r"[A-Za-z_][\w'′]*(?:-[\w→]+)*\??")
 # Words of the Rust, of fdlibm's C, of a usage line, of a foreign command, of a verdict or of an older kit that need not be in the tree.
-FOREIGN = set('rattle-kit-5b-plain marching_intersection __kernel_rem_pio2 aabb march valgrind tool callgrind axioms libraries-built libc cpu rattle_errno __xpg_strerror_r'.split())
+FOREIGN = set('rattle-kit-5b-plain marching_intersection aabb march valgrind tool callgrind axioms libraries-built libc cpu rattle_errno __xpg_strerror_r'.split())
 
 
 def tree_words():

@@ -1,3 +1,2 @@
 pub mod Words
 pub mod Tally
-pub mod Marked

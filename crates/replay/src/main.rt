@@ -29,6 +29,7 @@ use roots::Roots;
 use std::io;
 use std::io::{Read, Write};
 use steps::Steps;
+use strict_math::StrictMath;
 use surfaces::Surfaces;
 use systems::Systems;
 use tolerances::Tolerances;
@@ -47,7 +48,7 @@ fn list<R: Read, W: Write>(input: &mut R, output: &mut W) -> io::Result<bool> {
     match Kind::from(word(&head, 0)) {
         Kind::Roots => Roots::replay(records, input, output),
         Kind::Tolerances => Tolerances::replay(records, input, output),
-        Kind::StrictMath => strict_math::replay(records, input, output),
+        Kind::StrictMath => StrictMath::replay(records, input, output),
         Kind::Systems => Systems::replay(records, input, output),
         Kind::Surfaces => Surfaces::replay(records, input, output),
         Kind::Crossings => Crossings::replay(records, input, output),
