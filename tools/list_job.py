@@ -2,8 +2,9 @@
 """list_job.py LIST LINES: the inputs of the job program that the gate replays (`tools/lists.py put job LIST`), and the lines that
 crates/replay/stdout must have for them.
 
-Inputs are document 01's examples 9 to 12, the last row 9 as request A2 has it, and the cases of refusal 19, with numbers that are NaN patterns among them. A record is a
-2-byte length and 400 bytes, zeros behind the input. The lines follow from 01 alone, but for the two marked "by the Rust".
+Inputs are document 01's examples 9 to 12, the last row 9 as request A2 has it, docs/example-far.txt, and the cases of refusal 19, with
+numbers that are NaN patterns among them. A record is a 2-byte length and 400 bytes, zeros behind the input. The lines follow from 01 alone,
+but for those of THE_RUST.
 """
 import struct
 import sys
@@ -13,6 +14,7 @@ import job
 
 HERE = Path(__file__).resolve().parent
 TEN = (HERE / "../docs/example-job.txt").read_text()
+FAR = (HERE / "../docs/example-far.txt").read_text()
 
 
 def ten(**lines):
@@ -60,6 +62,7 @@ def cases():
     yield ten(confusion=bits(0x3FF0000000000001)), "refused 5"
     for cap, line in [(1, 7), (2001, 7), (501, 8), (0, 7), (65535, 7)]:
         yield ten(cap=str(cap)), f"refused {line}"
+    yield job.job(FAR), THE_RUST["far"]
     # 19: lengths, the length field, version, kind, mark, unused sizes
     yield b"", "refused 19"
     yield whole[:346], "refused 19"
@@ -100,8 +103,8 @@ def cases():
             yield at(whole, place, word), f"refused {number}"
 
 
-# What the Rust, with document 01's changes, answers at the ends of confusion.
-THE_RUST = {"least": "trace 23 11 0", "one": "refused 11"}
+# What the Rust, with document 01's changes, answers at the ends of confusion and where an angle is many turns out.
+THE_RUST = {"least": "trace 23 11 0", "one": "refused 11", "far": "trace 55 10 0"}
 
 
 def main():
