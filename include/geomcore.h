@@ -57,7 +57,7 @@ static inline void geomcore_mode_restore(unsigned before) {
 }
 
 double geomcore_sqrt(double x); /* IEEE 754's: proved */
-double geomcore_sin(double x); /* of an angle in radians; a NaN beyond reach: docs/RULES.md */
+double geomcore_sin(double x); /* fdlibm's, of an angle in radians; a NaN of an infinite one and of a NaN */
 double geomcore_cos(double x);
 double geomcore_atan2(double y, double x); /* the angle of the point (x, y), in radians */
 

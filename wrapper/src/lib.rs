@@ -123,13 +123,13 @@ pub fn sqrt(x: f64) -> f64 {
     guarded(move || unsafe { geomcore_sqrt(x) })
 }
 
-/// fdlibm's sine of an angle in radians; a NaN beyond reach.
+/// fdlibm's sine of an angle in radians; a NaN of an infinite one and of a NaN.
 pub fn sin(x: f64) -> f64 {
     // SAFETY: as above.
     guarded(move || unsafe { geomcore_sin(x) })
 }
 
-/// fdlibm's cosine of an angle in radians; a NaN beyond reach.
+/// fdlibm's cosine of an angle in radians; a NaN of an infinite one and of a NaN.
 pub fn cos(x: f64) -> f64 {
     // SAFETY: as above.
     guarded(move || unsafe { geomcore_cos(x) })

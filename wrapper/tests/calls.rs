@@ -154,6 +154,17 @@ fn functions() {
     assert_eq!(geomcore::atan2(0.0, 1.0), 0.0);
 }
 
+/// Large angles have fdlibm's values; infinite ones none.
+#[test]
+fn large_angles() {
+    assert_eq!(geomcore::sin(1e22), -0.8522008497671888);
+    assert_eq!(geomcore::cos(1e22), 0.523214785395139);
+    for x in [f64::INFINITY, f64::NEG_INFINITY, f64::NAN] {
+        assert!(geomcore::sin(x).is_nan());
+        assert!(geomcore::cos(x).is_nan());
+    }
+}
+
 /// A line of example 10 to a file and back.
 #[test]
 fn file_of_example_10() {

@@ -80,6 +80,7 @@ fn answers(job: &[u8]) -> Vec<u64> {
         geomcore::sqrt(5e-324).to_bits(),
         geomcore::sin(0.5).to_bits(),
         geomcore::cos(1.25).to_bits(),
+        geomcore::cos(1e22).to_bits(),
         geomcore::atan2(1.0, 3.0).to_bits(),
     ];
     for (at, u) in [(geomcore::SURFACE_A, 0.3), (geomcore::SURFACE_B, 1e-310)] {

@@ -29,14 +29,14 @@ pub fn geomcore_sqrt(x: f64) -> f64
     sqrt::sqrt(x)
 }
 
-// The sine of an angle; a NaN beyond reach.
+// The sine of an angle; a NaN of an infinite one and of a NaN.
 pub fn geomcore_sin(x: f64) -> f64
     ensures { result ≡ sin_of x }
 {
     fdlibm::sin(x)
 }
 
-// The cosine of an angle; a NaN beyond reach.
+// The cosine of an angle; a NaN of an infinite one and of a NaN.
 pub fn geomcore_cos(x: f64) -> f64
     ensures { result ≡ cos_of x }
 {

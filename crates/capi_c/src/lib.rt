@@ -22,7 +22,7 @@ pub extern "C" fn geomcore_sqrt(x: f64) -> f64
     capi::geomcore_sqrt(x)
 }
 
-// The sine of an angle; a NaN beyond reach.
+// The sine of an angle; a NaN of an infinite one and of a NaN.
 #[unsafe(no_mangle)]
 pub extern "C" fn geomcore_sin(x: f64) -> f64
     ensures { result ≡ sin_of x }
@@ -30,7 +30,7 @@ pub extern "C" fn geomcore_sin(x: f64) -> f64
     capi::geomcore_sin(x)
 }
 
-// The cosine of an angle; a NaN beyond reach.
+// The cosine of an angle; a NaN of an infinite one and of a NaN.
 #[unsafe(no_mangle)]
 pub extern "C" fn geomcore_cos(x: f64) -> f64
     ensures { result ≡ cos_of x }
