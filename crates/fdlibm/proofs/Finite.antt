@@ -1,23 +1,25 @@
--- In reach sine and cosine are finite: no step can overflow. The bounds are crude, powers of two.
+-- Of a finite angle sine and cosine are finite: no step can overflow. The bounds are crude, powers of two.
 use Prim.Native.Nat.{ℕ, ◌-◌, ◌*◌, ◌/◌, ◌%◌, ◌^◌, ◌+◌, ◌≤◌}
 use native.Mathlib.Omega.{arith}
 use mathlib.Core.Bool.{Bool, true, false, not}
 use lib.Dec.{T, leb, ltb, lit≤, lit<, nltb→le}
 use lib.Ieee.{Float, binary64, of_bits, fits}
 use lib.Ieee.Scale.{finite}
-use native.Mathlib.Nat.{lt_of_le_of_lt}
+use native.Mathlib.Decide.{dec_le}
+use native.Mathlib.Nat.{lt_of_le_of_lt, lt_of_not-le}
+use borrow.Author.Tests.{le-leb, lt-leb}
 use Rattle.loops.specs.Loop.{pick}
 use Rattle.loops.proofs.Choice.{pick_is}
 use Rattle.number.specs.Operators.{◌⊖◌, ◌⊗◌, bits}
 use Rattle.number.specs.Helpers.{one, half}
 use Rattle.number.specs.Words.{high_word}
 use Rattle.number.proofs.Bounded.{Under, lift, under_finite, plus, minus, times, neg_under, constant, bits_under, word_under}
-use Rattle.reduction.specs.declared.Reduction.{Reduction}
-use Rattle.reduction.specs.Reduction.{reach, rem_pio2}
-use Rattle.reduction.proofs.Laws.{Left, LeftOf, zero_under, rem_under}
+use Rattle.remainder.specs.declared.Reduction.{Reduction}
+use Rattle.reduction.specs.Reduction.{rem_pio2}
+use Rattle.reduction.proofs.Laws.{Left, zero_under, rem_under}
 use Rattle.fdlibm.specs.Kernel.{S1, sin_series, cos_series, kernel_sin, kernel_cos, qx_of}
 use Rattle.fdlibm.specs.Sine.{sin_at, cos_at, sin_of, cos_of}
-use Rattle.fdlibm.proofs.Laws.{sin_at_is, cos_at_is, in_reach_is}
+use Rattle.fdlibm.proofs.Laws.{finite_word, sin_at_is, cos_at_is}
 
 -- ---- the kernels
 module _ (z : Float) (u : Under 134 z) where
@@ -105,10 +107,10 @@ module _ (x y : Float) (u : Under 67 x) (v : Under 67 y) where
 -- ---- sine and cosine
 module _ (a : Reduction) (l : Left a) where
   s_under : Under 950 (kernel_sin a.y0 a.y1 true)
-  s_under = kernel_sin_under a.y0 a.y1 (lift 67 tt l.0) (lift 67 tt l.1) true
+  s_under = kernel_sin_under a.y0 a.y1 l.0 l.1 true
 
   c_under : Under 950 (kernel_cos a.y0 a.y1)
-  c_under = kernel_cos_under a.y0 a.y1 (lift 67 tt l.0) (lift 67 tt l.1)
+  c_under = kernel_cos_under a.y0 a.y1 l.0 l.1
 
   sin_at_under : Under 950 (sin_at a)
   sin_at_under = sin_at_is (Under 950) (λ x. neg_under) a s_under c_under
@@ -116,22 +118,32 @@ module _ (a : Reduction) (l : Left a) where
   cos_at_under : Under 950 (cos_at a)
   cos_at_under = cos_at_is (Under 950) (λ x. neg_under) a s_under c_under
 
-module _ (x : Float) (f : T (fits binary64 x)) (h : high_word x ≤ reach) where
-  x_under : Under 21 x
-  x_under = word_under x 20 f (lt_of_le_of_lt h (lit< tt)) (lit≤ tt)
+module _ (x : Float) (f : T (fits binary64 x)) (h : T (finite x)) where
+  word : high_word x ≤ 0x7fefffff
+  word = finite_word x f h
+
+  left : Left (rem_pio2 x)
+  left = rem_under x f word
+
+  small : high_word x ≤ 0x3fe921fb → Under 67 x
+  small l = lift 67 tt (word_under x 20 f (lt_of_le_of_lt l (lit< tt)) (lit≤ tt))
+
+  -- what a kernel gives for a small angle, and a switch for the reduced one, is what the function gives
+  by_word : (s a : Float) → (high_word x ≤ 0x3fe921fb → T (finite s)) → T (finite a) → T (finite (pick (leb (high_word x) 0x3fe921fb) s (pick (leb 0x7ff00000 (high_word x)) (x ⊖ x) a)))
+  by_word s a p q = go (dec_le (high_word x) 0x3fe921fb)
+    where
+      go : Dec (high_word x ≤ 0x3fe921fb) → T (finite (pick (leb (high_word x) 0x3fe921fb) s (pick (leb 0x7ff00000 (high_word x)) (x ⊖ x) a)))
+      go (yes l) = rw (le-leb (high_word x) 0x3fe921fb l) (p l)
+      go (no l) = rw (lt-leb (high_word x) 0x3fe921fb (lt_of_not-le l), lt-leb 0x7ff00000 (high_word x) (lt_of_le_of_lt word (lit< tt))) q
 
   pub sin_finite : T (finite (sin_of x))
   unfolding sin_of
   sin_finite =
-      under_finite
-      (pick_is (Under 950) (leb (high_word x) 0x3fe921fb) (kernel_sin_under x (bits 0) (lift 67 tt x_under) (lift 67 tt zero_under) false)
-      (pick_is (Under 950) (leb 0x7ff00000 (high_word x)) (lift 950 tt (minus 21 tt tt tt x_under x_under))
-      (in_reach_is (Under 950) LeftOf sin_at sin_at_under (λ e. absurd e) (rem_pio2 x) (rem_under x h x_under))))
+      by_word (kernel_sin x (bits 0) false) (sin_at (rem_pio2 x)) (λ l. under_finite (kernel_sin_under x (bits 0) (small l) zero_under false))
+      (under_finite (sin_at_under (rem_pio2 x) left))
 
   pub cos_finite : T (finite (cos_of x))
   unfolding cos_of
   cos_finite =
-      under_finite
-      (pick_is (Under 950) (leb (high_word x) 0x3fe921fb) (kernel_cos_under x (bits 0) (lift 67 tt x_under) (lift 67 tt zero_under))
-      (pick_is (Under 950) (leb 0x7ff00000 (high_word x)) (lift 950 tt (minus 21 tt tt tt x_under x_under))
-      (in_reach_is (Under 950) LeftOf cos_at cos_at_under (λ e. absurd e) (rem_pio2 x) (rem_under x h x_under))))
+      by_word (kernel_cos x (bits 0)) (cos_at (rem_pio2 x)) (λ l. under_finite (kernel_cos_under x (bits 0) (small l) zero_under))
+      (under_finite (cos_at_under (rem_pio2 x) left))

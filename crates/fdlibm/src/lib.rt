@@ -1,12 +1,11 @@
 //! fdlibm 5.3's sine and cosine: the same constants, the same order of operations, the same tests on the high words. Each function
 //! equals the definition of `specs/` that is written from the C function of its name.
-//! An angle is in reach when the upper 32 bits of its magnitude are at most hexadecimal 413921fb; beyond that sine and cosine are NaN.
 #![tactic(auto)]
 
 ghost use Rattle.std.specs.Prelude.{◌≡◌};
 ghost use Rattle.fdlibm.specs.Sine.{sin_of, cos_of, sin_at, cos_at};
 
-use reduction::Reduction;
+use remainder::Reduction;
 
 mod kernel; // k_sin.c, k_cos.c
 
@@ -39,7 +38,7 @@ fn both_at(a: Reduction) -> SinCos
     }
 }
 
-// The sine and the cosine by one reduction; NaNs for an angle that is beyond reach, infinite or a NaN.
+// The sine and the cosine by one reduction; NaNs for an angle that is infinite or a NaN.
 fn both(x: f64) -> SinCos
     ensures { (result.sin ≡ sin_of x) × (result.cos ≡ cos_of x) }
 {
@@ -53,13 +52,7 @@ fn both(x: f64) -> SinCos
             cos: x - x,
         };
     }
-    let Some(a) = reduction::rem_pio2(x) else {
-        return SinCos {
-            sin: f64::NAN,
-            cos: f64::NAN,
-        };
-    };
-    both_at(a)
+    both_at(reduction::rem_pio2(x))
 }
 
 // The sine, with the cosine put into `cos`.

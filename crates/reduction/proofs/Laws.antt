@@ -1,50 +1,42 @@
--- What the reduction answers: nothing beyond reach, and in reach an angle and a tail of at most 2 ^ 44 (a crude bound, so that no step can overflow).
-use Prim.Native.Nat.{ℕ, ◌+◌, ◌/◌, ◌^◌, ◌≤◌, ◌<◌}
-use native.Mathlib.Nat.{le_trans}
+-- Of a finite angle the reduction leaves an angle and a tail of at most 2 ^ 67 (a crude bound, so that no step can overflow).
+use Prim.Native.Nat.{ℕ, ◌+◌, ◌/◌, ◌^◌, ◌≤◌}
+use native.Mathlib.Decide.{dec_le}
+use native.Mathlib.Nat.{le_trans, lt_of_not-le, lt_of_le_of_lt}
 use native.Mathlib.Omega.{arith}
-use mathlib.Core.Path.{◌≡◌, subst}
+use mathlib.Core.Path.{subst}
 use mathlib.Core.Bool.{not, ◌&&◌}
 use borrow.Author.Tests.{le-ltb, le-leb, lt-leb}
-use lib.Dec.{leb, ltb, eqb, lit≤}
+use lib.Dec.{T, leb, ltb, eqb, lit≤, lit<}
 use lib.Bits.{bit_and}
-use lib.Ieee.{Float, binary64, neg, of_bits, of_int, to_unsigned}
-use lib.IntN.{pos}
+use lib.Ieee.{Float, binary64, neg, of_bits, fits}
 use lib.ListN.{get_or}
 use Rattle.loops.proofs.Choice.{pick_is}
 use Rattle.number.specs.Operators.{◌⊕◌, ◌⊖◌, ◌⊗◌, bits}
-use Rattle.std.proofs.Common.{Option, Some, None}
 use Rattle.number.specs.Helpers.{one, half, abs_of}
 use Rattle.number.specs.Words.{high_word, sign_bit, exponent_field}
-use Rattle.number.proofs.Bounded.{Under, lift, minus, times, neg_under, abs_under, counted, constant}
-use Rattle.reduction.specs.declared.Reduction.{Reduction}
+use Rattle.number.proofs.Bounded.{Under, lift, minus, times, neg_under, abs_under, counted, constant, word_under}
+use Rattle.remainder.specs.declared.Reduction.{Reduction}
+use Rattle.remainder.specs.Machine.{double, int}
+use Rattle.remainder.specs.Large.{large_of}
+use Rattle.remainder.proofs.Truncation.{cut_most}
+use Rattle.remainder.proofs.Bounded.{large_under}
 use Rattle.reduction.specs.declared.Difference.{Difference}
 use Rattle.reduction.specs.Reduction.{npio2hw, invpio2, pio2_2, pio2_2t, pio2_3, pio2_3t, taken_of, above_of, below_of, first_difference}
-use Rattle.reduction.specs.Reduction.{next_difference, careful_of, refined_of, medium_of, negated_of, reach, rem_pio2}
+use Rattle.reduction.specs.Reduction.{next_difference, careful_of, refined_of, medium_of, negated_of, by_sign, rem_pio2}
 use Rattle.reduction.specs.Near.{near_of}
-use Rattle.reduction.proofs.Truncation.{cut_most}
 use Rattle.reduction.proofs.Branches.{near_above, near_below}
-
-pub rem_beyond : (x : Float) → reach < high_word x → high_word x < 0x7ff00000 → rem_pio2 x ≡ None
-unfolding rem_pio2
-rem_beyond x h l =
-    let w = high_word x in
-    rw (lt-leb w 0x3fe921fb (omega arith), le-ltb w 0x4002d97c (omega arith), lt-leb w reach h, lt-leb 0x7ff00000 w l)
 
 abbrev Parted : ℕ → Difference → Type 0
 Parted k d = Under k d.r × Under k d.w
 
 abbrev pub Left : Reduction → Type 0
-Left a = Under 44 a.y0 × Under 44 a.y1
-
-abbrev pub LeftOf : Option Reduction → Type 0
-LeftOf (Some a) = Left a
-LeftOf None = ⊥
+Left a = Under 67 a.y0 × Under 67 a.y1
 
 taken_under : (d : Difference) (n : ℕ) → Parted 41 d → Left (taken_of d n)
 unfolding taken_of
 taken_under d n v =
     let y = minus 41 tt tt tt v.0 v.1 in
-    (lift 44 tt y, minus 43 tt tt tt (minus 42 tt tt tt v.0 y) v.1)
+    (lift 67 tt y, lift 67 tt (minus 43 tt tt tt (minus 42 tt tt tt v.0 y) v.1))
 
 module _ (n : Float) (u : Under 31 n) where
   first_under : (t : Float) → Under 21 t → Parted 33 (first_difference t n)
@@ -93,18 +85,18 @@ module _ (n : Float) (u : Under 31 n) where
 medium_under : (t : Float) (ix : ℕ) → Under 21 t → Left (medium_of t ix)
 unfolding medium_of
 medium_under t ix v =
-    let whole = to_unsigned 31 (t ⊗ invpio2 ⊕ half) in
-    let n = of_int binary64 (pos whole) in
-    let u : Under 31 n = counted whole 31 (lit≤ tt) (le_trans (cut_most (t ⊗ invpio2 ⊕ half)) (lit≤ tt)) in
+    let whole = int (t ⊗ invpio2 ⊕ half) in
+    let n = double whole in
+    let u : Under 31 n = counted whole 31 (lit≤ tt) (le_trans (cut_most 31 (t ⊗ invpio2 ⊕ half)) (lit≤ tt)) in
     taken_under (refined_of (first_difference t n) whole n ix) (bit_and whole 3) (refined_under n u (first_difference t n) whole ix (first_under n u t v))
 
 back_under : (a : Reduction) → Left a → Left (negated_of a)
 unfolding negated_of
 back_under a v = (neg_under v.0, neg_under v.1)
 
-pub zero_under : Under 44 (bits 0)
+pub zero_under : Under 67 (bits 0)
 unfolding of_bits
-zero_under = constant 0 44 tt tt
+zero_under = constant 0 67 tt tt
 
 one_under : Under 31 one
 unfolding of_bits
@@ -116,13 +108,26 @@ above_under x ix u = subst Left (near_above x ix) (near_under one one_under x 1 
 below_under : (x : Float) (ix : ℕ) → Under 21 x → Left (below_of x ix)
 below_under x ix u = subst Left (near_below x ix) (near_under (neg one) (neg_under one_under) x 3 ix u)
 
-pub rem_under : (x : Float) → high_word x ≤ reach → Under 21 x → LeftOf (rem_pio2 x)
+by_sign_under : (sign : ℕ) (a : Reduction) → Left a → Left (by_sign sign a)
+by_sign_under sign a l = pick_is Left (eqb sign 0) l (back_under a l)
+
+pub rem_under : (x : Float) → T (fits binary64 x) → high_word x ≤ 0x7fefffff → Left (rem_pio2 x)
 unfolding rem_pio2
-rem_under x h u =
-    let ix = high_word x in
-    let a = medium_of (abs_of x) ix in
-    let m = medium_under (abs_of x) ix (abs_under u) in
-    rw (le-leb (high_word x) reach h)
-    (pick_is LeftOf (leb ix 0x3fe921fb) (lift 44 tt u, zero_under)
-    (pick_is LeftOf (ltb ix 0x4002d97c) (pick_is Left (eqb (sign_bit x) 0) (above_under x ix u) (below_under x ix u))
-    (pick_is Left (eqb (sign_bit x) 0) m (back_under a m))))
+rem_under x f h = go (dec_le (high_word x) 0x413921fb)
+  where
+    small : high_word x ≤ 0x413921fb → Under 21 x
+    small l = word_under x 20 f (lt_of_le_of_lt l (lit< tt)) (lit≤ tt)
+
+    go : Dec (high_word x ≤ 0x413921fb) → Left (rem_pio2 x)
+    go (yes l) =
+        let ix = high_word x in
+        let u = small l in
+        rw (le-leb ix 0x413921fb l)
+        (pick_is Left (leb ix 0x3fe921fb) (lift 67 tt u, zero_under)
+        (pick_is Left (ltb ix 0x4002d97c) (pick_is Left (eqb (sign_bit x) 0) (above_under x ix u) (below_under x ix u))
+        (by_sign_under (sign_bit x) (medium_of (abs_of x) ix) (medium_under (abs_of x) ix (abs_under u)))))
+    go (no l) =
+        let ix = high_word x in
+        let k = lt_of_not-le l in
+        rw (lt-leb ix 0x3fe921fb (omega arith), le-ltb ix 0x4002d97c (omega arith), lt-leb ix 0x413921fb k, lt-leb 0x7ff00000 ix (omega arith))
+        (by_sign_under (sign_bit x) (large_of x) (large_under x f (omega arith) h))

@@ -1,4 +1,3 @@
-pub mod Truncation
 pub mod Computing
 pub mod Branches
 pub mod Laws

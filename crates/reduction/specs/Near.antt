@@ -2,7 +2,7 @@
 use Rattle.std.specs.Prelude.{ℕ, eqb, Float}
 use Rattle.loops.specs.Loop.{pick}
 use Rattle.number.specs.Operators.{◌⊖◌, ◌⊗◌}
-use Rattle.reduction.specs.declared.Reduction.{Reduction}
+use Rattle.remainder.specs.declared.Reduction.{Reduction}
 use Rattle.reduction.specs.Reduction.{pio2_2, pio2_2t, taken_of, first_difference}
 
 -- the C's two special cases in one, for fn = 1 and n = 1 and for fn = -1 and n = 3: `near_above`, `near_below`

@@ -1,13 +1,14 @@
--- The reduction of an angle by multiples of pi/2: e_rem_pio2.c of fdlibm 5.3, up to its medium range; its constants by the bits
--- that its comments give. Definitions only.
-use Rattle.std.specs.Prelude.{ℕ, ◌+◌, ◌-◌, ◌/◌, ◌^◌, not, ◌&&◌, List, [], ◌∷◌, ltb, leb, eqb, pos, get_or, Float, Option, Some, None}
+-- The reduction of an angle by multiples of pi/2: e_rem_pio2.c of fdlibm 5.3; its constants by the bits that its comments give. Its last branch is
+-- `large_of` of the crate remainder. Definitions only.
+use Rattle.std.specs.Prelude.{ℕ, ◌+◌, ◌-◌, ◌/◌, ◌^◌, not, ◌&&◌, List, [], ◌∷◌, ltb, leb, eqb, get_or, Float}
 use Rattle.std.specs.Int.Bits.{bit_and}
-use Rattle.std.specs.Float.{binary64}
-use Rattle.std.specs.Float.Ieee.{neg, of_int, to_unsigned}
+use Rattle.std.specs.Float.Ieee.{neg}
 use Rattle.loops.specs.Loop.{pick}
 use Rattle.number.specs.Operators.{◌⊕◌, ◌⊖◌, ◌⊗◌, bits}
 use Rattle.number.specs.Helpers.{half, abs_of}
-use Rattle.reduction.specs.declared.Reduction.{Reduction}
+use Rattle.remainder.specs.declared.Reduction.{Reduction}
+use Rattle.remainder.specs.Machine.{double, int}
+use Rattle.remainder.specs.Large.{large_of}
 use Rattle.reduction.specs.declared.Difference.{Difference}
 use Rattle.number.specs.Words.{high_word, sign_bit, exponent_field}
 
@@ -90,24 +91,24 @@ refined_of d n fn ix = pick (ltb n 32 && not (eqb ix (get_or npio2hw n 0))) d (c
 -- the medium range for a positive t of high word ix: n = (int)(t*invpio2 + half), y0 = r - w, y1 = (r - y0) - w
 unfoldable pub medium_of : Float → ℕ → Reduction
 medium_of t ix =
-    let n = to_unsigned 31 (t ⊗ invpio2 ⊕ half) in
-    let fn = of_int binary64 (pos n) in
+    let n = int (t ⊗ invpio2 ⊕ half) in
+    let fn = double n in
     taken_of (refined_of (first_difference t fn) n fn ix) (bit_and n 3)
 
 -- hx < 0: y0, y1 and n negated; of n modulo 4 that is (4 - n) modulo 4
 unfoldable pub negated_of : Reduction → Reduction
 negated_of a = record { quadrant = bit_and (4 - bit_and a.quadrant 3) 3; y0 = neg a.y0; y1 = neg a.y1 }
 
--- "An angle is in reach when the upper 32 bits of its magnitude are at most hexadecimal 413921fb"
-abbrev pub reach : ℕ
-reach = 0x413921fb
+-- if(hx<0) as above, else as it is; a negative x has the sign bit 1
+abbrev pub by_sign : ℕ → Reduction → Reduction
+by_sign sign a = pick (eqb sign 0) a (negated_of a)
 
--- __ieee754_rem_pio2(x, y): n modulo 4 and y, or none beyond reach
-unfoldable pub rem_pio2 : Float → Option Reduction
+-- __ieee754_rem_pio2(x, y): n modulo 4 and y
+unfoldable pub rem_pio2 : Float → Reduction
 rem_pio2 x =
     let ix = high_word x in
-    let a = medium_of (abs_of x) ix in
-    pick (leb ix 0x3fe921fb) (Some (record { quadrant = 0; y0 = x; y1 = bits 0 }))
-    (pick (ltb ix 0x4002d97c) (Some (pick (eqb (sign_bit x) 0) (above_of x ix) (below_of x ix)))
-    (pick (leb ix reach) (Some (pick (eqb (sign_bit x) 0) a (negated_of a)))
-    (pick (leb 0x7ff00000 ix) (Some (record { quadrant = 0; y0 = x ⊖ x; y1 = x ⊖ x })) None)))
+    let sign = sign_bit x in
+    pick (leb ix 0x3fe921fb) (record { quadrant = 0; y0 = x; y1 = bits 0 })
+    (pick (ltb ix 0x4002d97c) (pick (eqb sign 0) (above_of x ix) (below_of x ix))
+    (pick (leb ix 0x413921fb) (by_sign sign (medium_of (abs_of x) ix))
+    (pick (leb 0x7ff00000 ix) (record { quadrant = 0; y0 = x ⊖ x; y1 = x ⊖ x }) (by_sign sign (large_of x)))))

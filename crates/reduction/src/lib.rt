@@ -1,22 +1,15 @@
-//! The reduction of an angle by multiples of pi/2: e_rem_pio2.c of fdlibm 5.3 up to its medium range, with the same constants, the same order of
-//! operations and the same tests on the high words.
+//! The reduction of an angle by multiples of pi/2: e_rem_pio2.c of fdlibm 5.3, with the same constants, the same order of operations and the same
+//! tests on the high words. Its last branch, for the large angles, is `remainder::large`.
 #![tactic(auto)]
 
 ghost use Rattle.std.specs.Prelude.{◌≡◌, ◌<◌, get_or};
-ghost use Rattle.std.specs.Float.Ieee.{to_unsigned};
-ghost use Rattle.reduction.specs.Reduction.{npio2hw, rem_pio2, taken_of, medium_of, negated_of};
+ghost use Rattle.reduction.specs.Reduction.{npio2hw, rem_pio2, taken_of, medium_of, negated_of, by_sign};
 ghost use Rattle.number.specs.Operators.{◌⊖◌, ◌⊗◌};
 ghost use Rattle.reduction.specs.Reduction.{next_difference, careful_of, refined_of};
 ghost use Rattle.reduction.specs.Near.{near_of};
 
-// The quadrant, n modulo 4, and the angle that is left: y0 with its tail y1.
-// Kept (1): the quadrant is a number, which the C reckons with (n & 3, -n) before its switch tells the four apart.
-#[derive(Clone, Copy)]
-pub struct Reduction {
-    pub quadrant: u64,
-    pub y0: f64,
-    pub y1: f64,
-}
+use remainder::Reduction;
+use remainder::machine::int;
 
 // A difference r - w that is not taken yet.
 #[derive(Clone, Copy)]
@@ -24,9 +17,6 @@ struct Difference {
     r: f64,
     w: f64,
 }
-
-// The greatest high word of an angle in reach.
-const REACH: u64 = 0x4139_21fb;
 
 // Kept (2): each constant is the C's, with its own value.
 const INVPIO2: f64 = 6.36619772367581382433e-01;
@@ -42,27 +32,6 @@ const PIO2_2T: f64 = 2.02226624879595063154e-21;
 const PIO2_3: f64 = 2.02226624871116645580e-21;
 
 const PIO2_3T: f64 = 8.47842766036889956997e-32;
-
-// The whole part, as C's cast to int has it, of a number that is not negative; 0 of a negative one.
-// Kept (4): over std's `saturating_f64_to_u64` sine and cosine beyond 3pi/4 take 4% longer than with this one (docs/parts/fdlibm.md).
-fn truncated(x: f64) -> u64
-    ensures { result ≡ to_unsigned 31 x }
-{
-    if x.is_nan() {
-        return 0;
-    }
-    let bits: u64 = f64::to_bits(x);
-    let exponent = bits >> 52;
-    if exponent < 1023 {
-        0
-    } else if exponent < 1054 {
-        ((bits & 0xf_ffff_ffff_ffff) + 0x10_0000_0000_0000) >> (1075 - exponent)
-    } else if exponent < 2048 {
-        0x7fff_ffff
-    } else {
-        0
-    }
-}
 
 // What a difference comes to: y0 is its rounded value, and the tail y1 what the rounding left out.
 fn taken(d: Difference, quadrant: u64) -> Reduction
@@ -150,7 +119,7 @@ fn refined(d: Difference, whole: u64, n: f64, ix: u64) -> Difference
 fn medium(t: f64, ix: u64) -> Reduction
     ensures { result ≡ medium_of t ix }
 {
-    let whole = truncated(t * INVPIO2 + 0.5);
+    let whole = int(t * INVPIO2 + 0.5) as u64;
     let n = whole as f64;
     let d = refined(plain_difference(t, n, PIO2_1, PIO2_1T), whole, n, ix);
     taken(d, whole & 3)
@@ -167,34 +136,40 @@ fn negated(a: Reduction) -> Reduction
     }
 }
 
-// An angle x less a multiple of pi/2: at most about pi/4 is left. None for an angle beyond reach.
-pub fn rem_pio2(x: f64) -> Option<Reduction>
+// What the magnitude's reduction says of the angle, whose sign bit is `sign`.
+fn by_sign(sign: u64, a: Reduction) -> Reduction
+    ensures { result ≡ by_sign sign a }
+{
+    if sign == 0 { a } else { negated(a) }
+}
+
+// An angle x less a multiple of pi/2: at most about pi/4 is left.
+pub fn rem_pio2(x: f64) -> Reduction
     ensures { result ≡ rem_pio2 x }
 {
     let ix = number::high_word(x);
     let sign = number::sign_bit(x);
     if ix <= 0x3fe9_21fb {
-        Some(Reduction {
+        Reduction {
             quadrant: 0,
             y0: x,
             y1: 0.0,
-        })
+        }
     } else if ix < 0x4002_d97c {
-        Some(if sign == 0 {
+        if sign == 0 {
             near(x, 1.0, 1, ix)
         } else {
             near(x, -1.0, 3, ix)
-        })
-    } else if ix <= REACH {
-        let a = medium(number::abs(x), ix);
-        Some(if sign == 0 { a } else { negated(a) })
+        }
+    } else if ix <= 0x4139_21fb {
+        by_sign(sign, medium(number::abs(x), ix))
     } else if 0x7ff0_0000 <= ix {
-        Some(Reduction {
+        Reduction {
             quadrant: 0,
             y0: x - x,
             y1: x - x,
-        })
+        }
     } else {
-        None
+        by_sign(sign, remainder::large(x))
     }
 }

@@ -1,5 +1,4 @@
 use borrow.Author.Tests.{le-leb, lt-leb}
-use lib.Ieee.{of_bits, div}
 use Rattle.fdlibm.specs.Sine.{sin_of, cos_of}
 use Rattle.fdlibm.proofs.both.Goals as goal
 
@@ -17,18 +16,10 @@ returns-then-ix-ge2146435072 c = (
   rw (← c.high_word-ix.ensures, lt-leb _ _ c.if-ix-le1072243195.false, le-leb _ _ c.if-ix-ge2146435072.true),
 )
 
-pub returns-in_default : goal.returns-in_default
-unfolding sin_of cos_of of_bits div
-returns-in_default c =
-    let w = c.high_word-ix.ensures in (
-      rw (← w, lt-leb _ _ c.if-ix-le1072243195.false, lt-leb _ _ c.if-ix-ge2146435072.false, ← c.rem_pio2.ensures, c.in_default.is),
-      rw (← w, lt-leb _ _ c.if-ix-le1072243195.false, lt-leb _ _ c.if-ix-ge2146435072.false, ← c.rem_pio2.ensures, c.in_default.is),
-    )
-
 pub returns : goal.returns
 unfolding sin_of cos_of
 returns c =
     let w = c.high_word-ix.ensures in (
-      rw (c.both_at.ensures.0, ← w, lt-leb _ _ c.if-ix-le1072243195.false, lt-leb _ _ c.if-ix-ge2146435072.false, ← c.rem_pio2.ensures, c.in-Some.is),
-      rw (c.both_at.ensures.1, ← w, lt-leb _ _ c.if-ix-le1072243195.false, lt-leb _ _ c.if-ix-ge2146435072.false, ← c.rem_pio2.ensures, c.in-Some.is),
+      rw (c.both_at.ensures.0, ← w, lt-leb _ _ c.if-ix-le1072243195.false, lt-leb _ _ c.if-ix-ge2146435072.false, ← c.rem_pio2.ensures),
+      rw (c.both_at.ensures.1, ← w, lt-leb _ _ c.if-ix-le1072243195.false, lt-leb _ _ c.if-ix-ge2146435072.false, ← c.rem_pio2.ensures),
     )

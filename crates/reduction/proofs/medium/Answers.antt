@@ -1,21 +1,19 @@
-use mathlib.Core.Path.{◌≡◌, sym, subst}
-use Prim.Native.Nat.{ℕ, ◌^◌, ◌≤◌}
-use native.Mathlib.Nat.{le_trans}
-use lib.Dec.{T, le→leb, lit≤}
+use Prim.Native.Nat.{ℕ, ◌^◌, ◌<◌}
+use native.Mathlib.Omega.{arith}
+use lib.Dec.{T, le→leb}
 use lib.IntN.{pos}
-use lib.Ieee.{Float, binary64, in_float, to_unsigned}
-use Rattle.reduction.proofs.Truncation.{cut_most}
+use lib.Ieee.{binary64, in_float}
 use Rattle.reduction.specs.Reduction.{medium_of, first_difference}
 use Rattle.reduction.proofs.medium.Goals as goal
 
 -- a number below 2 ^ 31 is a binary64 exactly
-exact : (x : Float) (n : ℕ) → n ≡ to_unsigned 31 x → T (in_float binary64 (pos n))
+exact : (n : ℕ) → n < 2 ^ 31 → T (in_float binary64 (pos n))
 unfolding in_float
-exact x n e = le→leb n (2 ^ 53) (subst (λ (k : ℕ). k ≤ 2 ^ 53) (sym e) (le_trans (cut_most x) (lit≤ tt)))
+exact n h = le→leb n (2 ^ 53) (omega arith)
 
 pub int_to_float-n : goal.int_to_float-n
-int_to_float-n c = exact _ _ c.truncated-whole.ensures
+int_to_float-n c = exact _ c.int-whole.ensures.within
 
 pub returns : goal.returns
 unfolding medium_of first_difference
-returns c = rw (c.taken.ensures, c.refined-d.ensures, c.plain_difference.ensures.0, c.plain_difference.ensures.1, c.truncated-whole.ensures)
+returns c = rw (c.taken.ensures, c.refined-d.ensures, c.plain_difference.ensures.0, c.plain_difference.ensures.1, c.int-whole.ensures.is)
