@@ -29,3 +29,16 @@ sin_right = refl
 pub cos_half_turn : cos_of (bits 0x400921fb54442d18) ≡ bits 0xbff0000000000000
 unfolding computing
 cos_half_turn = refl
+
+-- large angles: the sine of 1e22 and of the greatest finite number, and the cosine of 6381956970095103 * 2 ^ 797, which is closest to a zero
+pub sin_large : sin_of (bits 0x4480f0cf064dd592) ≡ bits 0xbfeb453ab76bf397
+unfolding computing
+sin_large = refl
+
+pub sin_greatest : sin_of (bits 0x7fefffffffffffff) ≡ bits 0x3f7452fc98b34e97
+unfolding computing
+sin_greatest = refl
+
+pub cos_closest : cos_of (bits 0x7506ac5b262ca1ff) ≡ bits 0xbc214ae72e6ba22f
+unfolding computing
+cos_closest = refl
