@@ -58,7 +58,17 @@ pub searched_done : {S R : Type 0} (f : ℕ → S → Flow S R) (end : S → R) 
     → searched f end a b (on s) ≡ u → end s ≡ u
 searched_done f end a b {s} h i = sym (searched_end f end a b s h) ∙ i
 
--- What every iteration keeps holds at the end: P of each state, Q of each answer.
+-- What every iteration keeps holds at the end. Of a counting loop: P i of the state before iteration i.
+pub ranged_keeps_at : {S : Type 0} (f : ℕ → S → S) (P : ℕ → S → Type 0) (a b : ℕ) → ((i : ℕ) (s : S) → i < b → P i s → P (i + 1) (f i s)) → a ≤ b
+    → (s : S) → P a s → P b (ranged f a b s)
+unfolding iterated
+ranged_keeps_at {S} f P a b step h s p = go (b - a) a (omega arith) s p
+  where
+    go : (k i : ℕ) → i + k ≡ b → (s : S) → P i s → P b (iterated f k i s)
+    go zero i e s p = subst (λ (j : ℕ). P j s) (let g : i ≡ b = omega arith in g) p
+    go (suc k) i e s p = go k (i + 1) (omega arith) (f i s) (step i s (omega arith) p)
+
+-- Of a loop with an early way out: P of each state, Q of each answer.
 abbrev pub Kept : {S R : Type 0} → (S → Type 0) → (R → Type 0) → Flow S R → Type 0
 Kept P Q (on s) = P s
 Kept P Q (out r) = Q r

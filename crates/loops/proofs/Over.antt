@@ -36,8 +36,8 @@ module _ {A : Type 0} where
       ∙ ap (λ (k : ℕ). take at l ++ (xs ++ ys) ++ drop k l) (let f : at + length xs + length ys ≡ at + length (xs ++ ys) = omega arith in f)
 
   -- by two stores, one behind the other
-  pub over_next : (l : List A) (at n : ℕ) (xs ys : List A) {m r : List A} → length xs ≡ n → at + n + length ys ≤ length l → m ≡ over l at xs → r ≡ over m (at + n) ys
-      → r ≡ over l at (xs ++ ys)
+  pub over_next : (l : List A) (at n : ℕ) (xs ys : List A) {m r : List A} → length xs ≡ n → at + n + length ys ≤ length l → m ≡ over l at xs
+      → r ≡ over m (at + n) ys → r ≡ over l at (xs ++ ys)
   over_next l at n xs ys {m} e h f g =
       g ∙ ap (λ (z : List A). over z (at + n) ys) f ∙ ap (λ (k : ℕ). over (over l at xs) (at + k) ys) (sym e) ∙ over_twice l at xs ys (omega arith)
 
