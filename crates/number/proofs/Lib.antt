@@ -1,3 +1,4 @@
+pub mod Powers
 pub mod Sign
 pub mod Compare
 pub mod Values
