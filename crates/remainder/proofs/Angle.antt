@@ -3,13 +3,14 @@ use mathlib.Core.Path.{◌≡◌, refl, sym, ap, ◌∙◌, subst}
 use mathlib.Core.Bool.{Bool, true, false, not, cond}
 use mathlib.Core.List.{List}
 use Prim.Native.Nat.{ℕ, zero, suc, ◌+◌, ◌-◌, ◌*◌, ◌/◌, ◌%◌, ◌^◌, ◌≤◌, ◌<◌}
-use native.Mathlib.Nat.{zero-add, add-zero, mod-lt, mod-eq-sub-div-mul, div-mul-le_self}
+use native.Mathlib.Nat.{add-zero, mod-lt}
 use native.Mathlib.Omega.{arith}
-use borrow.Author.Tests.{eqb-true, lt-leb}
+use borrow.Author.Tests.{lt-leb}
 use lib.Bits.{and_mask}
-use lib.Dec.{T, leb, ltb, eqb, ltb→lt, nltb→le, lit<, lit≤}
+use lib.Dec.{T, leb, ltb, ltb→lt, nltb→le, lit<, lit≤}
 use lib.Pow.{pow_pos, pow_mono}
 use lib.IntN.{ℤ, pos, negsuc, ◌-ℤ◌}
+use lib.Signed.{◌≤ℤ◌}
 use lib.ListN.{get_or}
 use lib.Ieee.{Float, nan, binary64, to_bits}
 use Rattle.std.proofs.lemmas.Int.{ints}
@@ -22,11 +23,10 @@ use Rattle.number.proofs.Fields.{at, normal}
 use Rattle.remainder.specs.Machine.{double, int}
 use Rattle.remainder.specs.Kernel.{two24}
 use Rattle.remainder.specs.Large.{scaled_of, e0_of, pieces_of, jx_of, jv_of, q0_of}
-use Rattle.remainder.proofs.Far.{jv}
-use Rattle.remainder.proofs.Distance.{raised_q0, one_at}
-use Rattle.remainder.proofs.Ending.{AtMost}
-use Rattle.remainder.proofs.Exactly.{Of, double_of, minus_of, times_of, finer_of, coarser_of, int_of, zero_test_of, two24_of}
-use Rattle.remainder.proofs.Passing.{W, Near}
+use Rattle.remainder.proofs.Far.{jv, raised_q0}
+use Rattle.remainder.proofs.Distance.{Parts, one_at}
+use Rattle.remainder.proofs.Exactly.{Of, times_of, coarser_of, floor_of, fraction_of, told_zero, two24_of}
+use Rattle.remainder.proofs.Passing.{weight_of_one}
 
 -- ---- the fields of the angle's bits
 
@@ -37,9 +37,6 @@ exponent_of x = magnitude_bits x / 2 ^ 52
 -- the significand of 53 bits
 abbrev pub significand_of : Float → ℕ
 significand_of x = 2 ^ 52 + magnitude_bits x % 2 ^ 52
-
-pub significand_under : (x : Float) → (0 < significand_of x) × (significand_of x < 2 ^ 53)
-significand_under x = (omega arith, omega arith)
 
 -- the words from 0x41300000 to 0x7fefffff are of the exponents from 1043 to 2046
 pub exponent_range : (x : Float) → 0x41300000 ≤ high_word x → high_word x ≤ 0x7fefffff → (1043 ≤ exponent_of x) × (exponent_of x ≤ 2046)
@@ -65,15 +62,12 @@ scaled_is x = (lit≤ tt, go (magnitude_bits x % 2 ^ 52) (omega arith))
         ∙ ap (λ (n : ℕ). at false 1046 n) (let i : b % 2 ^ 52 ≡ t = omega arith in i) in
         subst (λ (x : Float). Is x false ((2 ^ 52 + t) * 2 ^ 1045)) (sym (bits_is b ∙ parts)) (normal false 1045 t (lit≤ tt))
 
--- tx holds the pieces of the significand m, 19 bits longer
+-- tx holds the pieces of the significand m
 pub record Pieces (m : ℕ) (tx : List Float) : Type 0 where
   pub X0 : ℕ
   pub X1 : ℕ
   pub X2 : ℕ
-  pub under0 : X0 < 2 ^ 24
-  pub under1 : X1 < 2 ^ 24
-  pub under2 : X2 < 2 ^ 24
-  pub sum : m * 2 ^ 19 ≡ X0 * 2 ^ 48 + X1 * 2 ^ 24 + X2
+  pub parts : Parts m X0 X1 X2
   pub is0 : Of (get_or tx 0 nan) X0 0
   pub is1 : Of (get_or tx 1 nan) X1 0
   pub is2 : Of (get_or tx 2 nan) X2 0
@@ -82,25 +76,19 @@ pub record Pieces (m : ℕ) (tx : List Float) : Type 0 where
 piece_is : (z : Float) (m k : ℕ) → Of z m k → k ≤ 29 → m < 2 ^ 53 → m / 2 ^ k < 2 ^ 24
     → Of (double (int z)) (m / 2 ^ k) 0 × Of ((z ⊖ double (int z)) ⊗ two24) (m % 2 ^ k * 2 ^ 24) k
 piece_is z m k p K h l =
-    let n = m / 2 ^ k in
-    let t = double (int z) in
-    let d : Of t n 0 = subst (λ (i : ℕ). Of (double i) n 0) (sym (int_of z m k p (omega arith))) (double_of n (omega arith)) in
-    let u : Of t (n * 2 ^ k) k = subst (Of t (n * 2 ^ k)) (zero-add k) (finer_of t n 0 k d (omega arith)) in
-    let v : Of (z ⊖ t) (m % 2 ^ k) k =
-    subst (λ (i : ℕ). Of (z ⊖ t) i k) (sym (mod-eq-sub-div-mul m (2 ^ k)))
-    (minus_of z t m (n * 2 ^ k) k p u (div-mul-le_self m (2 ^ k)) (omega arith)) in
-    let f : m % 2 ^ k * 2 ^ 24 ≤ 2 ^ 53 = few (m % 2 ^ k) (2 ^ k) (mod-lt m (pow_pos k)) (pow_mono {i = k} {j = 29} K) in (
-      d,
-      subst (Of ((z ⊖ t) ⊗ two24) (m % 2 ^ k * 2 ^ 24)) (add-zero k)
-          (times_of (z ⊖ t) two24 (m % 2 ^ k) (2 ^ 24) k 0 v two24_of f (omega arith)),
+    let r = m % 2 ^ k in
+    let d = z ⊖ double (int z) in
+    let f : r * 2 ^ 24 ≤ 2 ^ 53 = few r (2 ^ k) (mod-lt m (pow_pos k)) (pow_mono {i = k} {j = 29} K) in (
+      floor_of z m k p (omega arith),
+      subst (Of (d ⊗ two24) (r * 2 ^ 24)) (add-zero k) (times_of d two24 r (2 ^ 24) k 0 (fraction_of z m k p (omega arith) (omega arith)) two24_of f (omega arith)),
     )
   where
     few : (r q : ℕ) → r < q → q ≤ 2 ^ 29 → r * 2 ^ 24 ≤ 2 ^ 53
     few r q h l = omega arith
 
-pieces_are : (z : Float) (m : ℕ) → Of z m 29 → m < 2 ^ 53 → Pieces m (pieces_of z)
+pieces_are : (z : Float) (m : ℕ) → Of z m 29 → 0 < m → m < 2 ^ 53 → Pieces m (pieces_of z)
 unfolding pieces_of
-pieces_are z m p h =
+pieces_are z m p o h =
     let r = m % 2 ^ 29 in
     let a = piece_is z m 29 p (lit≤ tt) h (omega arith) in
     let z1 = (z ⊖ double (int z)) ⊗ two24 in
@@ -110,10 +98,7 @@ pieces_are z m p h =
       X0 = m / 2 ^ 29;
       X1 = r / 2 ^ 5;
       X2 = r % 2 ^ 5 * 2 ^ 19;
-      under0 = omega arith;
-      under1 = omega arith;
-      under2 = omega arith;
-      sum = omega arith;
+      parts = record { some = o; few = h; under0 = omega arith; under1 = omega arith; under2 = omega arith; sum = omega arith };
       is0 = a.0;
       is1 = b.0;
       is2 =
@@ -123,7 +108,7 @@ pieces_are z m p h =
 
 -- tx of an angle
 pub angle_pieces : (x : Float) → Pieces (significand_of x) (pieces_of (scaled_of x))
-angle_pieces x = pieces_are (scaled_of x) (significand_of x) (scaled_is x) (significand_under x).1
+angle_pieces x = pieces_are (scaled_of x) (significand_of x) (scaled_is x) (omega arith) (omega arith)
 
 -- jx: the pieces after it are 0
 pub record Last (X1 X2 jx : ℕ) : Type 0 where
@@ -134,9 +119,8 @@ pub record Last (X1 X2 jx : ℕ) : Type 0 where
 pub last_is : (m : ℕ) (tx : List Float) (p : Pieces m tx) → Last p.X1 p.X2 (jx_of tx)
 unfolding jx_of
 last_is m tx p =
-    subst (λ (a : Bool). Last p.X1 p.X2 (pick a (pick (get_or tx 1 nan ==? positive_zero) 0 1) 2)) (sym (zero_test_of (get_or tx 2 nan) p.X2 0 p.is2))
-    (subst (λ (b : Bool). Last p.X1 p.X2 (pick (eqb p.X2 0) (pick b 0 1) 2)) (sym (zero_test_of (get_or tx 1 nan) p.X1 0 p.is1))
-    (go (eqb p.X2 0) (eqb p.X1 0) (eqb-true p.X2 0) (eqb-true p.X1 0)))
+    go (get_or tx 2 nan ==? positive_zero) (get_or tx 1 nan ==? positive_zero) (told_zero (get_or tx 2 nan) p.X2 0 p.is2)
+    (told_zero (get_or tx 1 nan) p.X1 0 p.is1)
   where
     go : (a b : Bool) → (a ≡ true → p.X2 ≡ 0) → (b ≡ true → p.X1 ≡ 0) → Last p.X1 p.X2 (pick a (pick b 0 1) 2)
     go false b f g = record { few = lit≤ tt; none1 = λ h. absurd (omega arith); none2 = λ h. absurd (omega arith) }
@@ -164,20 +148,20 @@ jv_is x = go (exponent_of x)
 
 -- q0 is from -27 to 2, and the weight of one follows from it
 pub record Placed (e : ℕ) (q0 : ℤ) : Type 0 where
-  pub near : Near q0
-  pub most : AtMost 2 q0
-  pub weight : (jz : ℕ) → 4 ≤ jz → W jz q0 ≡ one_at e jz
+  pub least : negsuc 26 ≤ℤ q0
+  pub most : q0 ≤ℤ pos 2
+  pub weight : (jz : ℕ) → 4 ≤ jz → weight_of_one jz q0 ≡ one_at e jz
 
 placed : (e : ℕ) → 1043 ≤ e → e ≤ 2046 → Placed e (pos e -ℤ pos (1046 + 24 * (jv e + 1)))
 placed e h l = difference (Placed e) e (1046 + 24 * (jv e + 1)) (omega arith)
     (λ p. record {
-      near = omega arith;
-      most = omega arith;
+      least = omega (arith, ints);
+      most = omega (arith, ints);
       weight = λ jz j. ap (λ (i : ℕ). 2 ^ i) (let f : 24 * jz - (e - (1046 + 24 * (jv e + 1))) ≡ 24 * jz + 1023 - raised_q0 e = omega arith in f);
     })
     (λ p. record {
-      near = omega arith;
-      most = tt;
+      least = omega (arith, ints);
+      most = omega (arith, ints);
       weight = λ jz j. ap (λ (i : ℕ). 2 ^ i)
           (let f : 24 * jz + (1046 + 24 * (jv e + 1) - suc e) + 1 ≡ 24 * jz + 1023 - raised_q0 e = omega arith in f);
     })

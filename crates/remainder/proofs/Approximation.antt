@@ -136,22 +136,16 @@ start M a p =
       apart = λ n i k. absurd (omega arith);
     }
 
--- what is d away on both sides has a remainder of at least d and at most M - d
-remainder_apart : (M a d m : ℕ) → 0 < d → 0 < M → Apart M a d d m → (d ≤ m * a % M) × (m * a % M + d ≤ M)
-remainder_apart M a d m p q h =
-    let e : m * a / M * M + m * a % M ≡ m * a = div-add-mod' (m * a) M in
-    let l : m * a % M < M = mod-lt (m * a) q in (
-      ⊎_elim (λ k. omega (arith, k)) (λ k. absurd (omega (arith, k))) (h 0 (m * a / M)),
-      ⊎_elim (λ k. absurd (omega (arith, k))) (λ k. omega (arith, k)) (h 0 (suc (m * a / M))),
-    )
+-- a is L or more away from every multiple of M
+abbrev pub Clear : (M L a : ℕ) → Type 0
+Clear M L a = (y : ℕ) → (y * M + L ≤ a) ⊎ (a + L ≤ y * M)
 
 -- The law: where the walk says yes, m * a stays at least the bound away from every multiple of M.
-pub kept_away : (limit bound M a : ℕ) → 0 < bound → 0 < M → kept limit bound M (a % M) ≡ true → (m : ℕ) → 0 < m → m < limit
-    → (bound ≤ m * a % M) × (m * a % M + bound ≤ M)
-kept_away limit bound M a p q w m h l =
+pub kept_away : (limit bound M a : ℕ) → 0 < M → kept limit bound M (a % M) ≡ true → (m : ℕ) → 0 < m → m < limit → Clear M bound (m * a)
+kept_away limit bound M a q w m h l y =
     let d : a / M * M + a % M ≡ a = div-add-mod' a M in
     let k : a % M < M = mod-lt a q in
     let e : a + (M - a % M) ≡ suc (a / M) * M = omega arith in
-    remainder_apart M a bound m p q
+    ⊎_elim (λ p. inl (omega (arith, p))) (λ p. inr (omega (arith, p)))
     (sound limit bound M 64 (leb limit (0 + M / (a % M) * 1)) (M / (a % M)) (M % (a % M)) 0 (a % M) 1 a (M - a % M) (suc (a / M)) e refl
-    (subst (λ (y : ℕ). State M a y 0 (a % M) 1) (sym (mod-add-div' M (a % M))) (start M a q)) w m h l)
+    (subst (λ (y : ℕ). State M a y 0 (a % M) 1) (sym (mod-add-div' M (a % M))) (start M a q)) w m h l 0 y)

@@ -1,17 +1,16 @@
 -- The reduction of every large angle comes to its end within the C's arrays, and is bounded.
-use mathlib.Core.Logic.{◌⊎◌}
 use mathlib.Core.Path.{◌≡◌, refl, sym, ◌∙◌, subst}
 use mathlib.Core.Bool.{Bool, true, false}
 use mathlib.Core.List.{List}
-use Prim.Native.Nat.{ℕ, suc, ◌+◌, ◌%◌, ◌^◌, ◌≤◌, ◌<◌}
+use Prim.Native.Nat.{ℕ, suc, ◌+◌, ◌≤◌, ◌<◌}
 use native.Mathlib.Omega.{arith}
 use borrow.Author.Tests.{eqb-true, eqb-false, le-ltb, both_ways}
-use lib.Dec.{T, ltb, eqb, lit≤}
+use lib.Dec.{eqb, lit≤}
 use lib.IntN.{ℤ}
 use lib.ListN.{length, replicate, length-replicate}
-use lib.Ieee.{Float, binary64, fits}
+use lib.Ieee.{Float}
 use Rattle.std.specs.Prelude.{Option, Some}
-use Rattle.loops.specs.Loop.{pick, on, out}
+use Rattle.loops.specs.Loop.{pick, Flow, on, out}
 use Rattle.loops.proofs.Loop.{Kept, searched_keeps_at}
 use Rattle.number.specs.Operators.{◌==?◌}
 use Rattle.number.specs.Helpers.{positive_zero}
@@ -21,16 +20,13 @@ use Rattle.remainder.specs.declared.Reduction.{Reduction}
 use Rattle.remainder.specs.Kernel.{Terms, terms, first_digits, first_terms, more_of, Passed, pass_of, joined_of, needed_of, finish_of, exhausted, again}
 use Rattle.remainder.specs.Kernel.{kernel_step, kernel_end, kernel_of, room}
 use Rattle.remainder.specs.Large.{scaled_of, pieces_of, jx_of, jv_of, e0_of, q0_of, large_of}
-use Rattle.remainder.proofs.Angle.{Pieces, Last, Placed, exponent_of, significand_of, significand_under, exponent_range}
-use Rattle.remainder.proofs.Angle.{angle_pieces, last_is, jv_is, q0_placed}
-use Rattle.remainder.proofs.Distance.{one_at}
-use Rattle.remainder.proofs.Distilling.{Digits}
+use Rattle.remainder.proofs.Angle.{Pieces, Last, Placed, exponent_of, significand_of, exponent_range, angle_pieces, last_is, jv_is, q0_placed}
 use Rattle.remainder.proofs.Ending.{finish_under}
 use Rattle.remainder.proofs.Enough.{enough}
 use Rattle.remainder.proofs.Far.{jv}
 use Rattle.remainder.proofs.Filled.{sums, sums_below, Filled, first_filled, more_filled}
-use Rattle.remainder.proofs.Passing.{W, Settled, pass_is}
-use Rattle.remainder.proofs.Weighing.{V, T as T_of}
+use Rattle.remainder.proofs.Passing.{weight_of_one, Settled, pass_is}
+use Rattle.remainder.proofs.Weighing.{Digits, sum_of_terms}
 
 -- The kernel comes to its end after a pass over the terms 0 to jz of q. What they are made of is in f and in the table, the pass leaves digits of 24
 -- bits, and where it leaves no fraction one of the digits from jk on is not 0, so that zero terms are chopped off within iq (`chop_stops`).
@@ -50,25 +46,26 @@ pub record Finishes (jv jx : ℕ) (q0 : ℤ) (r : Reduction) : Type 0 where
 iq_long : length (replicate {A = ℕ} room 0) ≡ 21
 iq_long = length-replicate {A = ℕ} room 0
 
-module _ (e : ℕ) (lo : 1043 ≤ e) (hi : e ≤ 2046) (m : ℕ) (m0 : 0 < m) (m1 : m < 2 ^ 53) (tx : List Float) (p : Pieces m tx)
-    (jx : ℕ) (last : Last p.X1 p.X2 jx) (q0 : ℤ) (place : Placed e q0) where
-  abbrev Q : ℕ → ℕ
-  Q = sums m tx p (jv e) jx last
-
+module _ (e : ℕ) (lo : 1043 ≤ e) (hi : e ≤ 2046) {m : ℕ} {tx : List Float} (p : Pieces m tx) (jx : ℕ) (last : Last p.X1 p.X2 jx)
+    (q0 : ℤ) (place : Placed e q0) where
   -- before pass i
   record Going (i : ℕ) (s : Terms) : Type 0 where
     pub from : 4 + i ≤ s.jz
     pub to : s.jz ≤ 7
-    pub filled : Filled m tx p (jv e) jx last (suc s.jz) s.f s.q
+    pub filled : Filled p (jv e) jx last (s.jz + 1) s.f s.q
 
   abbrev pass_at : Terms → Passed
   pass_at s = pass_of (replicate room 0) s.q s.jz q0
 
+  -- what a pass leads to
+  abbrev Leads : ℕ → Flow Terms Reduction → Type 0
+  Leads i = Kept (Going (i + 1)) (Finishes (jv e) jx q0)
+
   module _ (i : ℕ) (s : Terms) (g : Going i s) where
-    settled : Settled (T_of Q s.jz) (W s.jz q0) s.jz (replicate room 0) (pass_at s)
+    settled : Settled (sum_of_terms (sums p (jv e) jx last) (suc s.jz)) (weight_of_one s.jz q0) s.jz (replicate room 0) (pass_at s)
     settled =
-        pass_is s.q Q s.jz (replicate room 0) (λ n h. g.filled.in_q n (omega arith)) (λ n h. sums_below m tx p (jv e) jx last n)
-        (let f = iq_long in let h = g.to in omega (arith, f, h)) (let h = g.from in omega (arith, h)) q0 place.near
+        pass_is s.q (sums p (jv e) jx last) s.jz (replicate room 0) (λ n h. g.filled.in_q n (omega arith)) (λ n h. sums_below p (jv e) jx last n)
+        (let f = iq_long in let h = g.to in omega (arith, f, h)) (let h = g.from in omega (arith, h)) q0 place.least place.most
 
     finishes : (((pass_at s).pass.z ==? positive_zero) ≡ true → 0 < joined_of (pass_at s).digits s.jz)
         → Finishes (jv e) jx q0 (finish_of (pass_at s).digits (pass_at s).pass s.q s.jz q0)
@@ -88,35 +85,31 @@ module _ (e : ℕ) (lo : 1043 ≤ e) (hi : e ≤ 2046) (m : ℕ) (m0 : 0 < m) (m
 
     -- more terms, where they are needed: the seventh is the last of them
     more_terms : ((pass_at s).pass.z ==? positive_zero) ≡ true → joined_of (pass_at s).digits s.jz ≡ 0
-        → Kept (Going (i + 1)) (Finishes (jv e) jx q0) (again tx jx (jv e) s (needed_of (pass_at s).digits))
+        → Leads i (again tx jx (jv e) s (needed_of (pass_at s).digits))
     more_terms z j =
-        let w = settled in
         let from : 4 ≤ s.jz = let h = g.from in omega (arith, h) in
         let d = (pass_at s).digits in
-        let o : (V d s.jz ≡ T_of Q s.jz % one_at e s.jz) ⊎ (V d s.jz + T_of Q s.jz % one_at e s.jz ≡ one_at e s.jz) =
-        subst (λ (n : ℕ). (V d s.jz ≡ T_of Q s.jz % n) ⊎ (V d s.jz + T_of Q s.jz % n ≡ n)) (place.weight s.jz from) (w.exact z) in
-        let r =
-        (enough e lo hi m p.X0 p.X1 p.X2 m0 m1 p.sum p.under0 p.under1 p.under2 Q s.jz from g.to (λ n h. refl) d w.small o).3 j in
-        subst (λ (k : Option ℕ). Kept (Going (i + 1)) (Finishes (jv e) jx q0) (again tx jx (jv e) s k)) (sym r.1) (go r.0 r.2 r.3)
+        let o = rw (place.weight s.jz from) at (settled.exact z) in
+        let r = enough e lo hi p.parts s.jz from g.to d settled.small o j in
+        subst (λ (k : Option ℕ). Leads i (again tx jx (jv e) s k)) (sym r.1) (go r.0 r.2 r.3)
       where
-        go : (k : ℕ) → 1 ≤ k → s.jz + k ≤ 7 → Kept (Going (i + 1)) (Finishes (jv e) jx q0) (again tx jx (jv e) s (Some k))
+        go : (k : ℕ) → 1 ≤ k → s.jz + k ≤ 7 → Leads i (again tx jx (jv e) s (Some k))
         go k h l =
             let t = more_of tx jx (jv e) k s in
             let f = last.few in
-            let b : ltb 19 (jx + s.jz + k) ≡ false = le-ltb 19 (jx + s.jz + k) (omega (arith, f)) in
-            subst (λ (x : Bool). Kept (Going (i + 1)) (Finishes (jv e) jx q0) (pick x (out exhausted) (on (terms t.f t.q (s.jz + k))))) (sym b)
+            subst (λ (x : Bool). Leads i (pick x (out exhausted) (on (terms t.f t.q (s.jz + k))))) (sym (le-ltb 19 (jx + s.jz + k) (omega (arith, f))))
             (record {
               from = (let v = g.from in omega (arith, v));
               to = l;
-              filled = more_filled m tx p (jv e) jx last k s (omega (arith, f)) g.filled;
+              filled = more_filled p (jv e) jx last k s (omega (arith, f)) g.filled;
             })
 
-    step : Kept (Going (i + 1)) (Finishes (jv e) jx q0) (kernel_step tx jx (jv e) q0 i s)
+    step : Leads i (kernel_step tx jx (jv e) q0 i s)
     step = go ((pass_at s).pass.z ==? positive_zero) (eqb (joined_of (pass_at s).digits s.jz) 0) refl refl
       where
         go : (a b : Bool) → ((pass_at s).pass.z ==? positive_zero) ≡ a → eqb (joined_of (pass_at s).digits s.jz) 0 ≡ b
             → let o = finish_of (pass_at s).digits (pass_at s).pass s.q s.jz q0 in
-            Kept (Going (i + 1)) (Finishes (jv e) jx q0) (pick a (pick b (again tx jx (jv e) s (needed_of (pass_at s).digits)) (out o)) (out o))
+            Leads i (pick a (pick b (again tx jx (jv e) s (needed_of (pass_at s).digits)) (out o)) (out o))
         go false b f h = finishes (λ t. absurd (both_ways ((pass_at s).pass.z ==? positive_zero) f t))
         go true false f h = finishes (λ t. let n = eqb-false (joined_of (pass_at s).digits s.jz) 0 h in omega (arith, n))
         go true true f h = more_terms f (eqb-true (joined_of (pass_at s).digits s.jz) 0 h)
@@ -129,7 +122,7 @@ module _ (e : ℕ) (lo : 1043 ≤ e) (hi : e ≤ 2046) (m : ℕ) (m0 : 0 < m) (m
       (λ i s h g. step i s g)
       (λ s g. absurd (let h = g.from in let l = g.to in omega (arith, h, l)))
       (omega arith) (terms f (first_terms tx f jx (replicate room positive_zero)) 4)
-      (record { from = lit≤ tt; to = lit≤ tt; filled = first_filled m tx p (jv e) jx last })
+      (record { from = lit≤ tt; to = lit≤ tt; filled = first_filled p (jv e) jx last })
 
 -- ---- of an angle
 
@@ -140,16 +133,13 @@ unfolding large_of
 large_finishes x h l =
     let tx = pieces_of (scaled_of x) in
     let b = exponent_range x h l in
-    let s = significand_under x in
     let a = angle_pieces x in
     subst (λ (v : ℕ). Finishes v (jx_of tx) (q0_of (e0_of x)) (kernel_of tx (jx_of tx) v (q0_of (e0_of x)))) (sym (jv_is x))
-    (kernel_finishes (exponent_of x) b.0 b.1 (significand_of x) s.0 s.1 tx a (jx_of tx) (last_is (significand_of x) tx a) (q0_of (e0_of x))
-    (q0_placed x b.0 b.1))
+    (kernel_finishes (exponent_of x) b.0 b.1 a (jx_of tx) (last_is (significand_of x) tx a) (q0_of (e0_of x)) (q0_placed x b.0 b.1))
 
 -- Its angle and tail are at most 2 ^ 67 in magnitude.
-pub large_under : (x : Float) → T (fits binary64 x) → 0x41300000 ≤ high_word x → high_word x ≤ 0x7fefffff
-    → Under 67 (large_of x).y0 × Under 67 (large_of x).y1
-large_under x _ h l =
+pub large_under : (x : Float) → 0x41300000 ≤ high_word x → high_word x ≤ 0x7fefffff → Under 67 (large_of x).y0 × Under 67 (large_of x).y1
+large_under x h l =
     let r = large_finishes x h l in
     let q0 = q0_of (e0_of x) in
     let p = pass_of (replicate room 0) r.q r.jz q0 in
@@ -159,5 +149,5 @@ large_under x _ h l =
     (let e = r.from in omega (arith, e)) (let e = r.to in omega (arith, e)) (q0_placed x b.0 b.1).most)
 
 -- It never leaves the C's arrays, which `exhausted` would say.
-pub never_exhausted : (x : Float) → T (fits binary64 x) → 0x41300000 ≤ high_word x → high_word x ≤ 0x7fefffff → large_of x ≡ exhausted → ⊥
-never_exhausted x f h l e = under_finite (subst (λ (a : Reduction). Under 67 a.y0) e (large_under x f h l).0)
+pub never_exhausted : (x : Float) → 0x41300000 ≤ high_word x → high_word x ≤ 0x7fefffff → large_of x ≡ exhausted → ⊥
+never_exhausted x h l e = under_finite (subst (λ (a : Reduction). Under 67 a.y0) e (large_under x h l).0)

@@ -2,7 +2,7 @@
 use mathlib.Core.Path.{◌≡◌, refl, sym, ap, ap₂, subst, ◌∙◌}
 use mathlib.Core.Bool.{Bool, true, ◌&&◌}
 use mathlib.Core.List.{List, [], ◌∷◌}
-use mathlib.Core.Logic.{◌⊎◌, inl, inr, ⊎_elim}
+use mathlib.Core.Logic.{inl, inr, ⊎_elim}
 use Prim.Native.Nat.{ℕ, zero, suc, ◌+◌, ◌-◌, ◌*◌, ◌/◌, ◌%◌, ◌^◌, ◌≤◌, ◌<◌}
 use native.Mathlib.Nat.{mul_assoc, mul-le-mul_left, mul-le-mul_right, mul-le-mul, le_of_mul-le-mul_left, div-add-mod', mod-lt}
 use native.Mathlib.Omega.{arith}
@@ -12,22 +12,13 @@ use lib.Pow.{pow_pos, pow-add, pow_mono}
 use borrow.Author.Tests.{ltb-true, le-ltb}
 use Rattle.std.proofs.lemmas.Bool.{cases_lt, and_parts}
 use Rattle.loops.specs.Loop.{pick}
+use Rattle.number.proofs.Powers.{pow_sum}
 use Rattle.remainder.specs.Tables.{two_over_pi}
-use Rattle.remainder.proofs.Far.{digits, digits_from, jv, weight_of, far}
-use Rattle.remainder.proofs.Weighing.{T, next_weight}
+use Rattle.remainder.proofs.Approximation.{Clear}
+use Rattle.remainder.proofs.Far.{digits, digits_from, jv, raised_q0, modulus_bits, far}
+use Rattle.remainder.proofs.Weighing.{sum_of_terms}
 
 -- ---- numbers that stay away from the multiples of another
-
--- a is L or more away from every multiple of M
-abbrev Clear : (M L a : ℕ) → Type 0
-Clear M L a = (y : ℕ) → (y * M + L ≤ a) ⊎ (a + L ≤ y * M)
-
-from_remainder : (M L a : ℕ) → (L ≤ a % M) × (a % M + L ≤ M) → Clear M L a
-from_remainder M L a h y =
-    let e : a / M * M + a % M ≡ a = div-add-mod' a M in
-    ⊎_elim
-    (λ k. let p : y * M ≤ a / M * M = mul-le-mul_right M (let l : y ≤ a / M = omega arith in l) in inl (omega (arith, h)))
-    (λ k. let p : suc (a / M) * M ≤ y * M = mul-le-mul_right M k in inr (omega (arith, h))) (cases_lt y (suc (a / M)))
 
 to_remainder : (M L a : ℕ) → 0 < M → 0 < L → Clear M L a → (L ≤ a % M) × (a % M + L ≤ M)
 to_remainder M L a p q h =
@@ -73,8 +64,7 @@ digits_split zero b j =
 digits_split (suc a) b j =
     let p : suc a + b ≡ suc (a + b) = omega arith in
     let q : j + 1 + a ≡ j + suc a = omega arith in
-    let r : 24 * (a + b) ≡ 24 * a + 24 * b = omega arith in
-    let w : 2 ^ (24 * (a + b)) ≡ 2 ^ (24 * a) * 2 ^ (24 * b) = ap (λ (k : ℕ). 2 ^ k) r ∙ pow-add 2 (24 * a) (24 * b) in
+    let w = pow_sum (24 * a) (24 * b) (24 * (a + b)) (omega arith) in
     ap (λ (n : ℕ). digits n j) p
     ∙ omega (
       arith,
@@ -113,9 +103,18 @@ digits_below zero j = omega (arith, digits_none j, pow_pos (24 * 0))
 digits_below (suc n) j =
     let r : digits n (j + 1) < 2 ^ (24 * n) = digits_below n (j + 1) in
     let k : suc (D j) ≤ 2 ^ 24 = D_below j in
-    omega (arith, mul-le-mul_right (2 ^ (24 * n)) k, next_weight n, digits_more n j)
+    omega (arith, mul-le-mul_right (2 ^ (24 * n)) k, pow_sum 24 (24 * n) (24 * suc n) (omega arith), digits_more n j)
 
 -- ---- the terms
+
+-- the three pieces of a significand m of 53 bits, 19 bits longer
+pub record Parts (m X0 X1 X2 : ℕ) : Type 0 where
+  pub some : 0 < m
+  pub few : m < 2 ^ 53
+  pub under0 : X0 < 2 ^ 24
+  pub under1 : X1 < 2 ^ 24
+  pub under2 : X2 < 2 ^ 24
+  pub sum : m * 2 ^ 19 ≡ X0 * 2 ^ 48 + X1 * 2 ^ 24 + X2
 
 -- the digit that stands j before the one of index n; 0 before the first
 abbrev pub digit_at : ℕ → ℕ → ℕ
@@ -154,25 +153,14 @@ weighed : (X0 X1 X2 a b c x y z : ℕ)
 weighed X0 X1 X2 a b c x y z = omega arith
 
 -- the terms' number is each piece's product with as many digits
-terms_are : (v X0 X1 X2 : ℕ) (Q : ℕ → ℕ) (n : ℕ) → ((i : ℕ) → i ≤ n → Q i ≡ term_at v X0 X1 X2 i)
-    → T Q n ≡ X0 * digits (suc n) (v + 2) + X1 * digits (suc n) (v + 1) + X2 * digits (suc n) v
-terms_are v X0 X1 X2 Q zero q =
-    let f = λ (j : ℕ). let z : digits 0 j * 2 ^ 24 + D (j + 0) ≡ D (j + 0) = omega (arith, digits_none j) in digits_last 0 j ∙ z in
-    q 0 (omega arith) ∙ term_is v X0 X1 X2 0 ∙ sym (rw (f (v + 2), f (v + 1), f v))
-terms_are v X0 X1 X2 Q (suc n) q =
-    let r = terms_are v X0 X1 X2 Q n (λ i h. q i (omega arith)) in
-    let e : T Q n * 2 ^ 24 + Q (suc n)
-    ≡ (X0 * digits (suc n) (v + 2) + X1 * digits (suc n) (v + 1) + X2 * digits (suc n) v) * 2 ^ 24
-    + (X0 * D (v + 2 + suc n) + X1 * D (v + 1 + suc n) + X2 * D (v + suc n)) =
-    ap₂ (λ (x y : ℕ). x * 2 ^ 24 + y) r (q (suc n) (omega arith) ∙ term_is v X0 X1 X2 (suc n)) in
-    e ∙ weighed X0 X1 X2 (digits (suc n) (v + 2)) (digits (suc n) (v + 1)) (digits (suc n) v) (D (v + 2 + suc n)) (D (v + 1 + suc n)) (D (v + suc n))
-    ∙ sym (rw (digits_last (suc n) (v + 2), digits_last (suc n) (v + 1), digits_last (suc n) v))
+terms_are : (v X0 X1 X2 n : ℕ) → sum_of_terms (term_at v X0 X1 X2) n ≡ X0 * digits n (v + 2) + X1 * digits n (v + 1) + X2 * digits n v
+terms_are v X0 X1 X2 zero = sym (rw (digits_none (v + 2), digits_none (v + 1), digits_none v) (omega arith))
+terms_are v X0 X1 X2 (suc n) =
+    ap₂ (λ (x y : ℕ). x * 2 ^ 24 + y) (terms_are v X0 X1 X2 n) (term_is v X0 X1 X2 n)
+    ∙ weighed X0 X1 X2 (digits n (v + 2)) (digits n (v + 1)) (digits n v) (D (v + 2 + n)) (D (v + 1 + n)) (D (v + n))
+    ∙ sym (rw (digits_last n (v + 2), digits_last n (v + 1), digits_last n v))
 
 -- ---- the product of the angle and the digits
-
--- the weight of n digits and b bits
-more_weight : (b n m : ℕ) → b + 24 * n ≡ 24 * m → 2 ^ b * 2 ^ (24 * n) ≡ 2 ^ (24 * m)
-more_weight b n m e = sym (pow-add 2 b (24 * n)) ∙ ap (λ (k : ℕ). 2 ^ k) e
 
 product_of : (X B A a p d q r G P : ℕ) → A ≡ a * p + (d * q + r) → B * p ≡ G → B * q ≡ P → X * B * A ≡ X * a * G + (X * d * P + X * (B * r))
 product_of X B A a p d q r G P e f g = omega (arith, ap (λ (z : ℕ). X * B * z) e, ap (λ (z : ℕ). X * a * z) f, ap (λ (z : ℕ). X * d * z) g)
@@ -181,7 +169,7 @@ product_of X B A a p d q r G P e f g = omega (arith, ap (λ (z : ℕ). X * B * z
 piece_times : (X b A a k d n r m : ℕ) → A ≡ a * 2 ^ (24 * k) + (d * 2 ^ (24 * n) + r) → b + 24 * k ≡ 24 * 10 → b + 24 * n ≡ 24 * m
     → X * 2 ^ b * A ≡ X * a * 2 ^ (24 * 10) + (X * d * 2 ^ (24 * m) + X * (2 ^ b * r))
 piece_times X b A a k d n r m e f g =
-    product_of X (2 ^ b) A a (2 ^ (24 * k)) d (2 ^ (24 * n)) r (2 ^ (24 * 10)) (2 ^ (24 * m)) e (more_weight b k 10 f) (more_weight b n m g)
+    product_of X (2 ^ b) A a (2 ^ (24 * k)) d (2 ^ (24 * n)) r (2 ^ (24 * 10)) (2 ^ (24 * m)) e (pow_sum b (24 * k) (24 * 10) f) (pow_sum b (24 * n) (24 * m) g)
 
 last_times : (x A d P r : ℕ) → A ≡ d * P + r → x * A ≡ x * d * P + x * r
 last_times x A d P r e = omega (arith, ap (λ (z : ℕ). x * z) e)
@@ -216,20 +204,16 @@ part_below : (X b n j m : ℕ) → X < 2 ^ 24 → b + 24 * n ≡ 24 * m → X * 
 part_below X b n j m h e =
     let p : digits n j ≤ 2 ^ (24 * n) = omega (arith, digits_below n j) in
     let q : X ≤ 2 ^ 24 = omega arith in
-    mul-le-mul q (subst (λ (x : ℕ). 2 ^ b * digits n j ≤ x) (more_weight b n m e) (mul-le-mul_left (2 ^ b) p))
+    mul-le-mul q (subst (λ (x : ℕ). 2 ^ b * digits n j ≤ x) (pow_sum b (24 * n) (24 * m) e) (mul-le-mul_left (2 ^ b) p))
 
-rest_below : (v X0 X1 X2 n r : ℕ) → X0 < 2 ^ 24 → X1 < 2 ^ 24 → X2 < 2 ^ 24 → rest_of v X0 X1 X2 n r ≤ 2 ^ 26 * 2 ^ (24 * (r + 2))
-rest_below v X0 X1 X2 n r h0 h1 h2 =
-    let a = part_below X0 48 r (v + 2 + n) (r + 2) h0 (omega arith) in
-    let b = part_below X1 24 (r + 1) (v + 1 + n) (r + 2) h1 (omega arith) in
-    let d = part_below X2 0 (r + 2) (v + n) (r + 2) h2 (omega arith) in
+rest_below : {m X0 X1 X2 : ℕ} (v n r : ℕ) → Parts m X0 X1 X2 → rest_of v X0 X1 X2 n r ≤ 2 ^ 26 * 2 ^ (24 * (r + 2))
+rest_below {X0 = X0} {X1 = X1} {X2 = X2} v n r p =
+    let a = part_below X0 48 r (v + 2 + n) (r + 2) p.under0 (omega arith) in
+    let b = part_below X1 24 (r + 1) (v + 1 + n) (r + 2) p.under1 (omega arith) in
+    let d = part_below X2 0 (r + 2) (v + n) (r + 2) p.under2 (omega arith) in
     omega (arith, a, b, d)
 
 -- ---- the modulus
-
--- q0 + 1023, for the exponent's field e of the angle
-abbrev pub raised_q0 : ℕ → ℕ
-raised_q0 e = e - 47 - 24 * jv e
 
 -- the weight of one among jz digits, and how near the terms' number may come to its multiples
 abbrev pub one_at : (e jz : ℕ) → ℕ
@@ -272,38 +256,34 @@ apart_by M L x h P w l t R p q r em el ex b f =
     let g : Clear M (P * l) (P * t) = without M L (P * l) h (P * t) R (omega arith) (subst (Clear M L) ex f) in
     to_remainder w l t q r (unscaled_by P w l t p (subst (λ (z : ℕ). Clear z (P * l) (P * t)) em g))
 
--- For an angle of exponent field e whose significand m is X0, X1, X2 in pieces: Q 0 to Q jz as one number stays 2 ^ -63 away from each whole number,
--- in units of the weight of one.
-pub terms_apart : (e : ℕ) → 1043 ≤ e → e ≤ 2046 → (m X0 X1 X2 : ℕ) → 0 < m → m < 2 ^ 53 → m * 2 ^ 19 ≡ X0 * 2 ^ 48 + X1 * 2 ^ 24 + X2
-    → X0 < 2 ^ 24 → X1 < 2 ^ 24 → X2 < 2 ^ 24 → (Q : ℕ → ℕ) (jz : ℕ) → 4 ≤ jz → jz ≤ 7 → ((i : ℕ) → i ≤ jz → Q i ≡ term_at (jv e) X0 X1 X2 i)
-    → (gap_at e jz ≤ T Q jz % one_at e jz) × (T Q jz % one_at e jz + gap_at e jz ≤ one_at e jz)
-terms_apart e h l m X0 X1 X2 m0 m1 pieces h0 h1 h2 Q jz j0 j1 q =
+-- For an angle of exponent field e: the terms 0 to jz as one number stay 2 ^ -63 away from each whole number, in units of the weight of one.
+pub terms_apart : (e : ℕ) → 1043 ≤ e → e ≤ 2046 → {m X0 X1 X2 : ℕ} → Parts m X0 X1 X2 → (jz : ℕ) → 4 ≤ jz → jz ≤ 7
+    → let t = sum_of_terms (term_at (jv e) X0 X1 X2) (suc jz) % one_at e jz in (gap_at e jz ≤ t) × (t + gap_at e jz ≤ one_at e jz)
+terms_apart e h l {m} {X0} {X1} {X2} p jz j0 j1 =
     let v = jv e in
     let A = digits_from v in
     let r = 7 - jz in
     let n = suc jz in
     let s = raised_q0 e in
+    let b = modulus_bits e in
     let P = 2 ^ (24 * (r + 2)) in
     let R = rest_of v X0 X1 X2 n r in
     let u = above_is e X0 X1 h l in
-    let e0 : n + r ≡ 8 = omega arith in
-    let i0 : 1239 - s ≡ 24 * (r + 2) + (24 * jz + 1023 - s) = omega arith in
-    let i1 : 1239 - s ≡ 19 + weight_of e = omega arith in
-    let i2 : 19 + (weight_of e - 62) ≡ 24 * (r + 2) + (1 + (24 * jz + 960 - s)) = omega arith in
-    let M = 2 ^ 19 * 2 ^ weight_of e in
-    let g : M ≡ 2 ^ (1239 - s) = sym (pow-add 2 19 (weight_of e)) ∙ ap (λ (k : ℕ). 2 ^ k) (sym i1) in
-    let em : M ≡ P * one_at e jz = g ∙ ap (λ (k : ℕ). 2 ^ k) i0 ∙ pow-add 2 (24 * (r + 2)) (24 * jz + 1023 - s) in
-    let el : 2 ^ 19 * 2 ^ (weight_of e - 62) ≡ P * (2 * gap_at e jz) =
-    sym (pow-add 2 19 (weight_of e - 62)) ∙ ap (λ (k : ℕ). 2 ^ k) i2 ∙ pow-add 2 (24 * (r + 2)) (1 + (24 * jz + 960 - s))
-    ∙ ap (λ (x : ℕ). P * x) (pow-add 2 1 (24 * jz + 960 - s)) in
-    let ex : 2 ^ 19 * (m * A) ≡ u.0 * M + (P * T Q jz + R) =
-    turned_round m A ∙ ap (λ (x : ℕ). x * A) pieces ∙ product_is v X0 X1 X2 n r e0
-    ∙ ap₂ (λ (x y : ℕ). x + (P * y + R)) (u.1 ∙ ap (λ (x : ℕ). u.0 * x) (sym g)) (sym (terms_are v X0 X1 X2 Q jz q)) in
-    let b : R ≤ P * gap_at e jz = wider R P (gap_at e jz) (rest_below v X0 X1 X2 n r h0 h1 h2) (pow_mono {i = 26} {j = 24 * jz + 960 - s} (omega arith)) in
-    apart_by M (2 ^ 19 * 2 ^ (weight_of e - 62)) (2 ^ 19 * (m * A)) u.0 P (one_at e jz) (gap_at e jz) (T Q jz) R (pow_pos (24 * (r + 2)))
-    (pow_pos (24 * jz + 1023 - s)) (pow_pos (24 * jz + 960 - s)) em el ex b
-    (scaled_by (2 ^ 19) (2 ^ weight_of e) (2 ^ (weight_of e - 62)) (m * A)
-    (from_remainder (2 ^ weight_of e) (2 ^ (weight_of e - 62)) (m * A) (far e h l m m0 m1)))
+    let M = 2 ^ 19 * 2 ^ b in
+    let g : M ≡ 2 ^ (1239 - s) = pow_sum 19 b (1239 - s) (omega arith) in
+    let em : M ≡ P * one_at e jz = g ∙ sym (pow_sum (24 * (r + 2)) (24 * jz + 1023 - s) (1239 - s) (omega arith)) in
+    let el : 2 ^ 19 * 2 ^ (b - 62) ≡ P * (2 * gap_at e jz) =
+    pow_sum 19 (b - 62) (19 + (b - 62)) refl
+    ∙ sym (pow_sum (24 * (r + 2)) (1 + (24 * jz + 960 - s)) (19 + (b - 62)) (omega arith))
+    ∙ ap (λ (x : ℕ). P * x) (sym (pow_sum 1 (24 * jz + 960 - s) (1 + (24 * jz + 960 - s)) refl)) in
+    let ex : 2 ^ 19 * (m * A) ≡ u.0 * M + (P * sum_of_terms (term_at v X0 X1 X2) n + R) =
+    turned_round m A ∙ ap (λ (x : ℕ). x * A) p.sum ∙ product_is v X0 X1 X2 n r (omega arith)
+    ∙ ap₂ (λ (x y : ℕ). x + (P * y + R)) (u.1 ∙ ap (λ (x : ℕ). u.0 * x) (sym g)) (sym (terms_are v X0 X1 X2 n)) in
+    let c : R ≤ P * gap_at e jz =
+    wider R P (gap_at e jz) (rest_below v n r p) (pow_mono {i = 26} {j = 24 * jz + 960 - s} (omega arith)) in
+    apart_by M (2 ^ 19 * 2 ^ (b - 62)) (2 ^ 19 * (m * A)) u.0 P (one_at e jz) (gap_at e jz) (sum_of_terms (term_at v X0 X1 X2) n) R
+    (pow_pos (24 * (r + 2))) (pow_pos (24 * jz + 1023 - s)) (pow_pos (24 * jz + 960 - s)) em el ex c
+    (scaled_by (2 ^ 19) (2 ^ b) (2 ^ (b - 62)) (m * A) (far e h l m p.some p.few))
   where
     turned_round : (m A : ℕ) → 2 ^ 19 * (m * A) ≡ m * 2 ^ 19 * A
     turned_round m A = omega arith

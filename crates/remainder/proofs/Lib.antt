@@ -1,13 +1,14 @@
+pub mod Entries
 pub mod Truncation
 pub mod Computing
 pub mod Examples
 pub mod Machin
 pub mod Approximation
 pub mod Far
+pub mod Exactly
 pub mod Weighing
 pub mod Distance
 pub mod Enough
-pub mod Exactly
 pub mod Distilling
 pub mod Passing
 pub mod Ending

@@ -2,19 +2,20 @@
 use mathlib.Core.Path.{◌≡◌, refl, sym, ap, ◌∙◌, subst}
 use mathlib.Core.Logic.{◌⊎◌, inl, inr}
 use Prim.Native.Nat.{ℕ, zero, suc, ◌+◌, ◌-◌, ◌*◌, ◌/◌, ◌%◌, ◌^◌, ◌≤◌, ◌<◌, min}
-use native.Mathlib.Nat.{mul_comm, mul-div-mul_right, div-eq_of_lt, le-div_iff_mul-le, min-eq_left, min-eq_right, min-le_right}
+use native.Mathlib.Nat.{mul-div-mul_right, div-eq_of_lt, le-div_iff_mul-le, min-eq_left, min-eq_right, min-le_right}
 use native.Mathlib.Nat.{le_trans, le_of_eq, mul-le-mul_right, lt_of_lt_of_le, eq-or-lt_of_le, mod-lt}
 use native.Mathlib.Omega.{arith}
 use mathlib.Core.Bool.{Bool, true, false, not, cond}
 use lib.Dec.{T, leb, eqb, lit≤}
 use borrow.Author.Tests.{le-leb, lt-leb}
 use lib.Bits.{bit_and, and_mask}
-use lib.Pow.{pow-add, pow_pos, pow_mono, shl_lt, shr_lt}
+use lib.Pow.{pow_pos, pow_mono, shl_lt, shr_lt}
 use lib.Ieee.{Float, nan, inf, fin, binary64, up, down, odd, of_fields, to_bits, fits, is_nan, to_unsigned}
 use lib.Ieee.Fits.{down_pos}
 use lib.Ieee.Exact.{HasValue, odd_sign}
 use lib.Ieee.Nearest.{div_same}
 use Rattle.std.proofs.Common.{zero-le}
+use Rattle.number.proofs.Powers.{pow_sum}
 use Rattle.number.proofs.Fields.{at, subnormal, normal, fields}
 
 abbrev pub most : ℕ → ℕ
@@ -63,9 +64,8 @@ below_one w (suc k) t h l =
     ∙ none w
 
 -- from 1 to 2 ^ w: a shift, by j = 1074 - k
-shift : (q k j : ℕ) → k + j ≡ 1074 → q * 2 ^ k / 2 ^ 1074 ≡ q / 2 ^ j
-shift q k j e =
-    ap (λ (n : ℕ). q * 2 ^ k / n) (ap (λ (i : ℕ). 2 ^ i) (sym e) ∙ pow-add 2 k j ∙ mul_comm (2 ^ k) (2 ^ j)) ∙ mul-div-mul_right q (2 ^ j) (pow_pos k)
+pub shift : (q k j : ℕ) → k + j ≡ 1074 → q * 2 ^ k / 2 ^ 1074 ≡ q / 2 ^ j
+shift q k j e = ap (λ (n : ℕ). q * 2 ^ k / n) (sym (pow_sum j k 1074 (omega (arith, e)))) ∙ mul-div-mul_right q (2 ^ j) (pow_pos k)
 
 shifted : (w t j : ℕ) → t < 2 ^ 52 → 53 ≤ w + j → (2 ^ 52 + t) / 2 ^ j ≤ most w
 shifted w t j h l =
@@ -90,8 +90,9 @@ middle w (suc k) t h l m n =
 large : (w t k : ℕ) → 1022 + w ≤ k → most w * 2 ^ 1074 ≤ (2 ^ 52 + t) * 2 ^ k
 large w t k h =
     le_trans (mul-le-mul_right (2 ^ 1074) (less (2 ^ w)))
-    (le_trans (le_of_eq (sym (pow-add 2 w 1074)))
-    (le_trans (pow_mono {i = w + 1074} {j = 52 + k} (omega arith)) (le_trans (le_of_eq (pow-add 2 52 k)) (mul-le-mul_right (2 ^ k) (add t)))))
+    (le_trans (le_of_eq (pow_sum w 1074 (w + 1074) refl))
+    (le_trans (pow_mono {i = w + 1074} {j = 52 + k} (omega arith))
+    (le_trans (le_of_eq (sym (pow_sum 52 k (52 + k) refl))) (mul-le-mul_right (2 ^ k) (add t)))))
   where
     less : (n : ℕ) → n - 1 ≤ n
     less n = omega arith
@@ -159,18 +160,16 @@ module _ (w : ℕ) (m : w ≤ 53) (x : Float) (f : T (fits binary64 x)) where
 
   pub most_part : T (not (is_nan x)) → 1023 + w ≤ to_bits binary64 x / 2 ^ 52 → to_bits binary64 x / 2 ^ 52 < 2048 → to_unsigned w x ≡ most w
   most_part n l h =
-      let b = to_bits binary64 x in
-      ap (to_unsigned w) (plain h) ∙ go (eq-or-lt_of_le (below (b / 2 ^ 52) h)) (subst (λ (y : Float). T (not (is_nan y))) (plain h) n)
+      let e = to_bits binary64 x / 2 ^ 52 in
+      ap (to_unsigned w) (plain h)
+      ∙ go e (to_bits binary64 x % 2 ^ 52) l (eq-or-lt_of_le (below e h)) (subst (λ (y : Float). T (not (is_nan y))) (plain h) n)
     where
       below : (e : ℕ) → e < 2048 → e ≤ 2047
       below e h = omega arith
 
-      go : let b = to_bits binary64 x in
-          (b / 2 ^ 52 ≡ 2047) ⊎ (b / 2 ^ 52 < 2047) → T (not (is_nan (at false (b / 2 ^ 52) (b % 2 ^ 52)))) → to_unsigned w (at false (b / 2 ^ 52) (b % 2 ^ 52)) ≡ most w
-      go (inl e) k =
-          let t = to_bits binary64 x % 2 ^ 52 in
-          ap (λ (i : ℕ). to_unsigned w (at false i t)) e ∙ infinite w t (subst (λ (i : ℕ). T (not (is_nan (at false i t)))) e k)
-      go (inr k) _ = above w (to_bits binary64 x / 2 ^ 52) (to_bits binary64 x % 2 ^ 52) l k
+      go : (e t : ℕ) → 1023 + w ≤ e → (e ≡ 2047) ⊎ (e < 2047) → T (not (is_nan (at false e t))) → to_unsigned w (at false e t) ≡ most w
+      go e t l (inl p) k = ap (λ (i : ℕ). to_unsigned w (at false i t)) p ∙ infinite w t (subst (λ (i : ℕ). T (not (is_nan (at false i t)))) p k)
+      go e t l (inr p) k = above w e t l p
 
   pub negative_part : 2048 ≤ to_bits binary64 x / 2 ^ 52 → to_unsigned w x ≡ 0
   negative_part h =

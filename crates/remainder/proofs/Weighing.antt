@@ -1,190 +1,185 @@
--- Lists of 24-bit digits as whole numbers, and what the searches among digits find by them: `joined_of`, `needed_of`, `chop_of`.
-use mathlib.Core.Path.{◌≡◌, refl, sym, ap, ◌∙◌}
+-- Digits of 24 bits as one number, terms as one number, and what the searches among digits find: `joined_of`, `needed_of`, `chop_of`.
+use mathlib.Core.Path.{◌≡◌, refl, sym, ap, ap₂, ◌∙◌, subst}
+use mathlib.Core.Bool.{Bool, true, false}
 use mathlib.Core.List.{List}
 use mathlib.Core.Logic.{⊎_elim}
-use Prim.Native.Nat.{ℕ, zero, suc, ◌+◌, ◌-◌, ◌*◌, ◌^◌, ◌≤◌, ◌<◌}
+use Prim.Native.Nat.{ℕ, zero, suc, ◌+◌, ◌-◌, ◌*◌, ◌^◌, ◌≤◌, ◌<◌, zero-le}
 use native.Mathlib.Nat.{mul-le-mul_right}
+use native.Mathlib.Numerals.{add-one}
 use native.Mathlib.Omega.{arith}
-use lib.Bits.{bit_or, or_zero_l}
-use lib.Dec.{eqb}
-use lib.IntN.{ℤ, pos, ◌-ℤ◌}
-use lib.ListN.{get_or}
-use lib.Pow.{pow_pos, pow-add, pow_mono}
+use borrow.Author.Count.{below_more}
 use borrow.Author.Tests.{eqb-true, eqb-false}
-use Rattle.std.specs.Prelude.{Some}
-use Rattle.std.proofs.lemmas.Bool.{cases_lt}
+use lib.Bits.{bit_or}
+use lib.Dec.{eqb, lit<, lit≤}
+use lib.IntN.{ℤ, pos, ◌-ℤ◌}
+use lib.ListN.{get_or, set, length}
+use lib.Pow.{pow_pos, pow_mono}
+use lib.Seq.{get_or-set_same, get_or-set_other}
+use Rattle.std.specs.Prelude.{Option, Some}
+use Rattle.std.proofs.lemmas.Bool.{cases_lt, cases_eq}
 use Rattle.std.proofs.lemmas.Int.{ints}
 use Rattle.std.proofs.lemmas.Nat.{le_or_l, le_or_r}
-use Rattle.loops.specs.Loop.{iterated, exits, on, out}
-use Rattle.loops.proofs.Any.{cases}
+use Rattle.loops.specs.Loop.{pick, on, out}
+use Rattle.loops.proofs.Loop.{Kept, ranged_keeps_at, searched_keeps_at}
+use Rattle.number.proofs.Powers.{pow_sum}
 use Rattle.remainder.specs.declared.sums.Held.{Held}
 use Rattle.remainder.specs.Kernel.{digit_joined, joined_of, needed_step, none_needed, needed_of, chop_step, chop_end, chop_of}
 
--- the first n digits as one number, the first of weight 1
-abbrev pub V : List ℕ → ℕ → ℕ
-V l zero = 0
-V l (suc n) = V l n + get_or l n 0 * 2 ^ (24 * n)
+-- the first n of the list are digits
+abbrev pub Digits : List ℕ → ℕ → Type 0
+Digits l n = (i : ℕ) → i < n → get_or l i 0 < 2 ^ 24
 
--- Q 0 to Q j as one number, the last of weight 1
-abbrev pub T : (ℕ → ℕ) → ℕ → ℕ
-T Q zero = Q 0
-T Q (suc j) = T Q j * 2 ^ 24 + Q (suc j)
+-- the first n as one number, the first of weight 1
+abbrev pub value_of : List ℕ → ℕ → ℕ
+value_of l zero = 0
+value_of l (suc n) = value_of l n + get_or l n 0 * 2 ^ (24 * n)
 
--- one digit's weight and the next
-pub next_weight : (n : ℕ) → 2 ^ (24 * suc n) ≡ 2 ^ 24 * 2 ^ (24 * n)
-next_weight n =
-    let e : 24 * suc n ≡ 24 + 24 * n = omega arith in
-    ap (λ (k : ℕ). 2 ^ k) e ∙ pow-add 2 24 (24 * n)
+-- Q 0 to Q (n - 1) as one number, the last of weight 1
+abbrev pub sum_of_terms : (ℕ → ℕ) → ℕ → ℕ
+sum_of_terms Q zero = 0
+sum_of_terms Q (suc n) = sum_of_terms Q n * 2 ^ 24 + Q n
 
--- digits below 2 ^ 24
-pub V_below : (l : List ℕ) (n : ℕ) → ((i : ℕ) → i < n → get_or l i 0 < 2 ^ 24) → V l n < 2 ^ (24 * n)
-V_below l zero d = omega (arith, pow_pos (24 * 0))
-V_below l (suc n) d =
-    let r : V l n < 2 ^ (24 * n) = V_below l n (λ i h. d i (omega arith)) in
+-- ---- laws of value_of
+
+pub value_more : (l : List ℕ) (n : ℕ) → value_of l (n + 1) ≡ value_of l n + get_or l n 0 * 2 ^ (24 * n)
+value_more l n = ap (value_of l) (add-one n)
+
+value_same : (l m : List ℕ) (n : ℕ) → ((i : ℕ) → i < n → get_or l i 0 ≡ get_or m i 0) → value_of l n ≡ value_of m n
+value_same l m zero h = refl
+value_same l m (suc n) h =
+    ap₂ (λ (v d : ℕ). v + d * 2 ^ (24 * n)) (value_same l m n (λ i k. h i (omega arith))) (h n (omega arith))
+
+-- a digit put behind the first n
+pub value_set : (l : List ℕ) (n d : ℕ) → n < length l → value_of (set l n d) (n + 1) ≡ value_of l n + d * 2 ^ (24 * n)
+value_set l n d h =
+    value_more (set l n d) n
+    ∙ ap₂ (λ (v d : ℕ). v + d * 2 ^ (24 * n))
+    (value_same (set l n d) l n (λ i k. get_or-set_other l n i d 0 (λ e. absurd (let x = e in omega arith)))) (get_or-set_same l n d 0 h)
+
+pub value_below : (l : List ℕ) (n : ℕ) → Digits l n → value_of l n < 2 ^ (24 * n)
+value_below l zero d = lit< tt
+value_below l (suc n) d =
+    let r : value_of l n < 2 ^ (24 * n) = value_below l n (λ i h. d i (omega arith)) in
     let k : suc (get_or l n 0) ≤ 2 ^ 24 = d n (omega arith) in
-    omega (arith, mul-le-mul_right (2 ^ (24 * n)) k, next_weight n)
+    omega (arith, mul-le-mul_right (2 ^ (24 * n)) k, pow_sum 24 (24 * n) (24 * suc n) (omega arith))
 
 -- digits that are 0 at the end
-pub V_shorter : (l : List ℕ) (m n : ℕ) → m ≤ n → ((i : ℕ) → m ≤ i → i < n → get_or l i 0 ≡ 0) → V l n ≡ V l m
-V_shorter l m n h d = go (n - m) n (omega arith) d
-  where
-    go : (k n : ℕ) → m + k ≡ n → ((i : ℕ) → m ≤ i → i < n → get_or l i 0 ≡ 0) → V l n ≡ V l m
-    go zero n e d = ap (V l) (omega arith)
-    go (suc k) n e d =
-        let f : n ≡ suc (m + k) = omega arith in
-        let z : get_or l (m + k) 0 ≡ 0 = d (m + k) (omega arith) (omega arith) in
-        let r : V l (m + k) ≡ V l m = go k (m + k) refl (λ i p q. d i p (omega arith)) in
-        ap (V l) f ∙ omega (arith, ap (λ (x : ℕ). x * 2 ^ (24 * (m + k))) z)
+value_shorter : (l : List ℕ) (m k : ℕ) → ((i : ℕ) → m ≤ i → i < m + k → get_or l i 0 ≡ 0) → value_of l (m + k) ≡ value_of l m
+value_shorter l m zero d = ap (value_of l) (omega arith)
+value_shorter l m (suc k) d =
+    let e : m + suc k ≡ m + k + 1 = omega arith in
+    let z = ap (λ (x : ℕ). x * 2 ^ (24 * (m + k))) (d (m + k) (omega arith) (omega arith)) in
+    ap (value_of l) e ∙ omega (arith, z, value_more l (m + k), value_shorter l m k (λ i h n. d i h (omega arith)))
 
 -- ---- joined_of
 
--- the digits that are joined are 0 where the whole is
-joined_parts : (iq : List ℕ) (jz k a s : ℕ) → iterated (digit_joined iq jz) k a s ≡ 0
-    → (s ≡ 0) × ((t : ℕ) → a ≤ t → t < a + k → get_or iq (jz - 1 - t) 0 ≡ 0)
-unfolding iterated
-joined_parts iq jz zero a s e = (e, λ t h l. absurd (omega arith))
-joined_parts iq jz (suc k) a s e =
-    let d = get_or iq (jz - 1 - a) 0 in
-    let r = joined_parts iq jz k (a + 1) (bit_or s d) e in
-    let z : s ≤ bit_or s d = le_or_l s d in
-    let y : d ≤ bit_or s d = le_or_r s d in
-    let z0 : s ≡ 0 = omega (arith, r.0) in
-    let y0 : d ≡ 0 = omega (arith, r.0) in
-    (z0, λ t h l. cases_at t h l y0 r.1)
-  where
-    cases_at : (t : ℕ) → a ≤ t → t < a + suc k → get_or iq (jz - 1 - a) 0 ≡ 0
-        → ((t : ℕ) → a + 1 ≤ t → t < a + 1 + k → get_or iq (jz - 1 - t) 0 ≡ 0) → get_or iq (jz - 1 - t) 0 ≡ 0
-    cases_at t h l y f =
-        cases (eqb a t) (λ e. ap (λ (i : ℕ). get_or iq (jz - 1 - i) 0) (sym (eqb-true a t e)) ∙ y)
-        (λ e. let n = eqb-false a t e in f t (omega arith) (omega arith))
+module _ (iq : List ℕ) (jz : ℕ) (h : 4 ≤ jz) where
+  -- the digits that are joined are 0 where the whole is
+  joined_zero : joined_of iq jz ≡ 0 → (i : ℕ) → 4 ≤ i → i < jz → get_or iq i 0 ≡ 0
+  unfolding joined_of
+  joined_zero e i p q =
+      let f : i ≡ jz - 1 - (jz - 1 - i) = omega arith in
+      ap (λ (n : ℕ). get_or iq n 0) f
+      ∙ ranged_keeps_at (digit_joined iq jz) (λ t s. s ≡ 0 → (i : ℕ) → i < t → get_or iq (jz - 1 - i) 0 ≡ 0) 0 (jz - 4)
+      (λ t s _ g e.
+      let z = both s (get_or iq (jz - 1 - t) 0) e in
+      below_more (λ (i : ℕ). get_or iq (jz - 1 - i) 0 ≡ 0) t (g z.0) z.1) zero-le 0 (λ _ i l. absurd (omega arith)) e (jz - 1 - i) (omega arith)
+    where
+      both : (s d : ℕ) → bit_or s d ≡ 0 → (s ≡ 0) × (d ≡ 0)
+      both s d e =
+          let l = le_or_l s d in
+          let r = le_or_r s d in
+          (omega (arith, e, l), omega (arith, e, r))
 
--- and the whole is 0 where they are
-joined_nothing : (iq : List ℕ) (jz k a : ℕ) → ((t : ℕ) → a ≤ t → t < a + k → get_or iq (jz - 1 - t) 0 ≡ 0) → iterated (digit_joined iq jz) k a 0 ≡ 0
-unfolding iterated
-joined_nothing iq jz zero a d = refl
-joined_nothing iq jz (suc k) a d =
-    let z : bit_or 0 (get_or iq (jz - 1 - a) 0) ≡ 0 = or_zero_l (get_or iq (jz - 1 - a) 0) ∙ d a (omega arith) (omega arith) in
-    ap (iterated (digit_joined iq jz) k (a + 1)) z ∙ joined_nothing iq jz k (a + 1) (λ t h l. d t (omega arith) (omega arith))
+  -- and the whole is 0 where they are
+  joined_none : ((i : ℕ) → 4 ≤ i → i < jz → get_or iq i 0 ≡ 0) → joined_of iq jz ≡ 0
+  unfolding joined_of
+  joined_none d =
+      ranged_keeps_at (digit_joined iq jz) (λ t s. s ≡ 0) 0 (jz - 4) (λ t s l e. ap₂ bit_or e (d (jz - 1 - t) (omega arith) (omega arith))) zero-le 0 refl
 
-pub joined_zero : (iq : List ℕ) (jz : ℕ) → 4 ≤ jz → joined_of iq jz ≡ 0 → (i : ℕ) → 4 ≤ i → i < jz → get_or iq i 0 ≡ 0
-unfolding joined_of
-joined_zero iq jz h e i p q =
-    let r = (joined_parts iq jz (jz - 4 - 0) 0 0 e).1 (jz - 1 - i) (omega arith) (omega arith) in
-    let f : i ≡ jz - 1 - (jz - 1 - i) = omega arith in
-    ap (λ (n : ℕ). get_or iq n 0) f ∙ r
-
-pub joined_none : (iq : List ℕ) (jz : ℕ) → 4 ≤ jz → ((i : ℕ) → 4 ≤ i → i < jz → get_or iq i 0 ≡ 0) → joined_of iq jz ≡ 0
-unfolding joined_of
-joined_none iq jz h d = joined_nothing iq jz (jz - 4 - 0) 0 (λ t p q. d (jz - 1 - t) (omega arith) (omega arith))
-
--- then the number has four digits
-pub joined_value : (iq : List ℕ) (jz : ℕ) → 4 ≤ jz → joined_of iq jz ≡ 0 → V iq jz ≡ V iq 4
-joined_value iq jz h e = V_shorter iq 4 jz h (joined_zero iq jz h e)
-
--- and a number of more than four digits has one of them that is not 0
-pub joined_some : (iq : List ℕ) (jz : ℕ) → 4 ≤ jz → ((i : ℕ) → i < jz → get_or iq i 0 < 2 ^ 24) → 2 ^ 96 ≤ V iq jz → 0 < joined_of iq jz
-joined_some iq jz h d v =
-    cases (eqb (joined_of iq jz) 0)
-    (λ e.
-    let z : V iq jz ≡ V iq 4 = joined_value iq jz h (eqb-true (joined_of iq jz) 0 e) in
-    let l : V iq 4 < 2 ^ 96 = V_below iq 4 (λ i p. d i (omega arith)) in
-    absurd (omega arith)) (λ e. let n = eqb-false (joined_of iq jz) 0 e in omega arith)
+  -- then the number has four digits
+  pub joined_value : joined_of iq jz ≡ 0 → value_of iq jz ≡ value_of iq 4
+  joined_value e =
+      let f : jz ≡ 4 + (jz - 4) = omega arith in
+      ap (value_of iq) f ∙ value_shorter iq 4 (jz - 4) (λ i p q. joined_zero e i p (omega arith))
 
 -- ---- needed_of
 
--- the search from k on, among n digits whose number is at least 2 ^ (24 j): the first digit that is not 0 is none of the last j
-needed_from : (iq : List ℕ) (j : ℕ) → ((m : ℕ) → m < 4 → 2 ^ (24 * j) ≤ V iq (suc m) → j ≤ m) → (n k : ℕ) → k + n ≡ 5 → 1 ≤ k
-    → 2 ^ (24 * j) ≤ V iq n → (i : ℕ) × (exits (needed_step iq) none_needed n k (on tt) ≡ Some i) × (1 ≤ i) × (i + j ≤ 4)
-unfolding exits
-needed_from iq j w zero k e h v = absurd (omega (arith, pow_pos (24 * j)))
-needed_from iq j w (suc n) k e h v =
-    let f : n ≡ 4 - k = omega arith in
-    cases (eqb (get_or iq (4 - k) 0) 0)
-    (λ t.
-    let z : get_or iq n 0 ≡ 0 = ap (λ (i : ℕ). get_or iq i 0) f ∙ eqb-true (get_or iq (4 - k) 0) 0 t in
-    let r =
-    needed_from iq j w n (k + 1) (omega arith) (omega arith) (omega (arith, v, ap (λ (x : ℕ). x * 2 ^ (24 * n)) z)) in
-    (r.0, ap (exits (needed_step iq) none_needed n (k + 1)) (rw t) ∙ r.1, r.2, r.3))
-    (λ t. (k, ap (exits (needed_step iq) none_needed n (k + 1)) (rw t) ∙ left n (k + 1) k, h, (let l : j ≤ n = w n (omega arith) v in omega arith)))
-  where
-    left : (n i k : ℕ) → exits (needed_step iq) none_needed n i (out (Some k)) ≡ Some k
-    left zero i k = refl
-    left (suc n) i k = refl
+module _ (iq : List ℕ) (j : ℕ) (d : Digits iq 4) where
+  -- before k the first 5 - k digits are left, whose number takes more than j of them
+  abbrev Left : ℕ → Unit {0} → Type 0
+  Left k s = (1 ≤ k) × (2 ^ (24 * j) ≤ value_of iq (5 - k))
 
--- a digit is found where the number of the first four is not 0
-pub needed_some : (iq : List ℕ) → 0 < V iq 4 → (k : ℕ) × (needed_of iq ≡ Some k) × (1 ≤ k) × (k ≤ 4)
-unfolding needed_of
-needed_some iq v = let r = needed_from iq 0 (λ m h l. omega arith) 4 1 refl (omega arith) v in (r.0, r.1, r.2, omega (arith, r.3))
+  abbrev Needed : Option ℕ → Type 0
+  Needed r = (k : ℕ) × (r ≡ Some k) × (1 ≤ k) × (k + j ≤ 4)
 
--- and where that number takes more than j digits, it is not one of the last j
-pub needed_within : (iq : List ℕ) (j : ℕ) → ((i : ℕ) → i < 4 → get_or iq i 0 < 2 ^ 24) → 2 ^ (24 * j) ≤ V iq 4
-    → (k : ℕ) × (needed_of iq ≡ Some k) × (1 ≤ k) × (k + j ≤ 4)
-unfolding needed_of
-needed_within iq j d v = needed_from iq j fewer 4 1 refl (omega arith) v
-  where
-    fewer : (m : ℕ) → m < 4 → 2 ^ (24 * j) ≤ V iq (suc m) → j ≤ m
-    fewer m h l =
-        let u : V iq (suc m) < 2 ^ (24 * suc m) = V_below iq (suc m) (λ i p. d i (omega arith)) in
-        ⊎_elim (λ p. let q : 2 ^ (24 * suc m) ≤ 2 ^ (24 * j) = pow_mono (omega arith) in absurd (omega arith)) (λ p. p) (cases_lt m j)
+  look : (k : ℕ) (s : Unit {0}) → k < 5 → Left k s → Kept (Left (k + 1)) Needed (needed_step iq k s)
+  look k s h p = go (eqb (get_or iq (4 - k) 0) 0) (eqb-true (get_or iq (4 - k) 0) 0)
+    where
+      more : value_of iq (5 - k) ≡ value_of iq (4 - k) + get_or iq (4 - k) 0 * 2 ^ (24 * (4 - k))
+      more =
+          let e : 5 - k ≡ 4 - k + 1 = omega arith in
+          ap (value_of iq) e ∙ value_more iq (4 - k)
+
+      few : k + j ≤ 4
+      few =
+          let u : value_of iq (5 - k) < 2 ^ (24 * (5 - k)) = value_below iq (5 - k) (λ i l. d i (let o = p.0 in omega (arith, o))) in
+          ⊎_elim
+          (λ l.
+          let g : 2 ^ (24 * (5 - k)) ≤ 2 ^ (24 * j) = pow_mono (omega arith) in
+          let v = p.1 in
+          absurd (omega (arith, u, v, g)))
+          (λ l. omega arith)
+          (cases_lt (4 - k) j)
+
+      go : (b : Bool) → (b ≡ true → get_or iq (4 - k) 0 ≡ 0) → Kept (Left (k + 1)) Needed (pick b (on s) (out (Some k)))
+      go true f =
+          let z = ap (λ (x : ℕ). x * 2 ^ (24 * (4 - k))) (f refl) in
+          let e : 5 - (k + 1) ≡ 4 - k = omega arith in
+          let v = p.1 in
+          (omega arith, subst (λ (n : ℕ). 2 ^ (24 * j) ≤ value_of iq n) (sym e) (omega (arith, more, z, v)))
+      go false f = (k, refl, p.0, few)
+
+  -- then the last of the four that is not 0 is none of the first j
+  pub needed_within : 2 ^ (24 * j) ≤ value_of iq 4 → Needed (needed_of iq)
+  unfolding needed_of
+  needed_within v =
+      searched_keeps_at (needed_step iq) none_needed Left Needed 1 5 look (λ s p. absurd (let e = p.1 in omega (arith, e, pow_pos (24 * j)))) (lit≤ tt) tt
+      (lit≤ tt, v)
 
 -- ---- chop_of
 
--- the search from t on, among the digits below n, the last of which has to be below 4
-chop_from : (iq : List ℕ) (jz : ℕ) (q0 : ℤ) (n t : ℕ) → t + n ≡ jz → (((i : ℕ) → 4 ≤ i → i < n → get_or iq i 0 ≡ 0) → ⊥)
-    → (i : ℕ) × (4 ≤ i) × (i < n) × (0 < get_or iq i 0)
-    × (exits (chop_step iq (jz - 1)) chop_end n t (on (q0 -ℤ pos (24 * (t + 1)))) ≡ record { jz = i; q0 = q0 -ℤ pos (24 * (jz - i)) })
-unfolding exits
-chop_from iq jz q0 zero t e w = absurd (w (λ i h l. absurd (omega arith)))
-chop_from iq jz q0 (suc n) t e w =
-    let f : n ≡ jz - 1 - t = omega arith in
-    cases (eqb (get_or iq (jz - 1 - t) 0) 0)
-    (λ z.
-    let y : get_or iq n 0 ≡ 0 = ap (λ (i : ℕ). get_or iq i 0) f ∙ eqb-true (get_or iq (jz - 1 - t) 0) 0 z in
-    let r = chop_from iq jz q0 n (t + 1) (omega arith) (λ d. w (with_last y d)) in
-    let s : q0 -ℤ pos (24 * (t + 1)) -ℤ pos 24 ≡ q0 -ℤ pos (24 * (t + 1 + 1)) = omega (arith, ints) in
-    (r.0, r.1, omega (arith, r.2), r.3, ap (exits (chop_step iq (jz - 1)) chop_end n (t + 1)) (rw z (ap on s)) ∙ r.4))
-    (λ z.
-    let y : 0 < get_or iq n 0 = rw f (let p = eqb-false (get_or iq (jz - 1 - t) 0) 0 z in omega arith) in
-    let l : 4 ≤ n = ⊎_elim (λ p. absurd (w (λ i h l. absurd (omega arith)))) (λ p. p) (cases_lt n 4) in
-    let g : 24 * (t + 1) ≡ 24 * (jz - n) = omega arith in
-    let h : Held = record { jz = jz - 1 - t; q0 = q0 -ℤ pos (24 * (t + 1)) } in
-    let u : ◌≡◌ {A = Held} h (record { jz = n; q0 = q0 -ℤ pos (24 * (jz - n)) }) = rw (g, f) in
-    (n, l, omega arith, y, ap (exits (chop_step iq (jz - 1)) chop_end n (t + 1)) (rw z) ∙ left n (t + 1) h ∙ u))
-  where
-    left : (n i : ℕ) (h : Held) → exits (chop_step iq (jz - 1)) chop_end n i (out h) ≡ h
-    left zero i h = refl
-    left (suc n) i h = refl
+module _ (iq : List ℕ) (jz : ℕ) (q0 : ℤ) where
+  -- before iteration t: not all of the digits from 4 on that are left are 0
+  abbrev Going : ℕ → ℤ → Type 0
+  Going t q = (q ≡ q0 -ℤ pos (24 * (t + 1))) × (((i : ℕ) → 4 ≤ i → i < jz - t → get_or iq i 0 ≡ 0) → ⊥)
 
-    with_last : get_or iq n 0 ≡ 0 → ((i : ℕ) → 4 ≤ i → i < n → get_or iq i 0 ≡ 0) → (i : ℕ) → 4 ≤ i → i < suc n → get_or iq i 0 ≡ 0
-    with_last y d i h l = cases (eqb n i) (λ p. ap (λ (m : ℕ). get_or iq m 0) (sym (eqb-true n i p)) ∙ y) (λ p. let q = eqb-false n i p in d i h (omega arith))
+  -- at a digit from 4 on that is not 0
+  abbrev pub Chops : Held → Type 0
+  Chops h = (i : ℕ) × (4 ≤ i) × (i < jz) × (0 < get_or iq i 0) × (h ≡ record { jz = i; q0 = q0 -ℤ pos (24 * (jz - i)) })
 
--- where one of the digits from 4 on is not 0 the search stops, at a digit that is not 0
-pub chop_stops : (iq : List ℕ) (jz : ℕ) (q0 : ℤ) → 4 ≤ jz → 0 < joined_of iq jz
-    → (i : ℕ) × (4 ≤ i) × (i < jz) × (0 < get_or iq i 0) × (chop_of iq jz q0 ≡ record { jz = i; q0 = q0 -ℤ pos (24 * (jz - i)) })
-unfolding chop_of
-chop_stops iq jz q0 h j =
-    let r = chop_from iq jz q0 (jz - 0) 0 (omega arith) nothing in
-    (r.0, r.1, omega (arith, r.2), r.3, r.4)
-  where
-    nothing : ((i : ℕ) → 4 ≤ i → i < jz - 0 → get_or iq i 0 ≡ 0) → ⊥
-    nothing d = let z : joined_of iq jz ≡ 0 = joined_none iq jz h (λ i p q. d i p (omega arith)) in omega arith
+  chop : (t : ℕ) (q : ℤ) → t < jz → Going t q → Kept (Going (t + 1)) Chops (chop_step iq (jz - 1) t q)
+  chop t q l g = go (eqb (get_or iq n 0) 0) (eqb-true (get_or iq n 0) 0) (eqb-false (get_or iq n 0) 0)
+    where
+      n : ℕ
+      n = jz - 1 - t
+
+      go : (b : Bool) → (b ≡ true → get_or iq n 0 ≡ 0) → (b ≡ false → get_or iq n 0 ≡ 0 → ⊥)
+          → Kept (Going (t + 1)) Chops (pick b (on (q -ℤ pos 24)) (out (record { jz = n; q0 = q })))
+      go true z s =
+          let e = g.0 in (
+            omega (arith, ints, e),
+            λ d. g.1 (λ i h k. ⊎_elim (λ p. ap (λ (m : ℕ). get_or iq m 0) p ∙ z refl) (λ p. d i h (omega arith)) (cases_eq i n)),
+          )
+      go false z s =
+          let o = s refl in
+          let e : ◌≡◌ {A = ℕ} (24 * (t + 1)) (24 * (jz - n)) = omega arith in
+          let f : 4 ≤ n = ⊎_elim (λ p. absurd (g.1 (λ i h k. absurd (omega arith)))) (λ p. p) (cases_lt n 4) in
+          (n, f, omega arith, omega arith, ap (λ (q : ℤ). record { jz = n; q0 = q }) (g.0 ∙ ap (λ (m : ℕ). q0 -ℤ pos m) e))
+
+  -- where one of the digits from 4 on is not 0 the search stops, at a digit that is not 0
+  pub chop_stops : 4 ≤ jz → 0 < joined_of iq jz → Chops (chop_of iq jz q0)
+  unfolding chop_of
+  chop_stops h j =
+      searched_keeps_at (chop_step iq (jz - 1)) chop_end Going Chops 0 jz chop (λ q g. absurd (g.1 (λ i h l. absurd (omega arith)))) zero-le (q0 -ℤ pos 24)
+      (refl, λ d. let z = joined_none iq jz h (λ i p q. d i p (omega arith)) in omega arith)
