@@ -1,13 +1,15 @@
 -- A number by the three fields of its bits: the sign, the exponent's field and the fraction's.
-use mathlib.Core.Path.{◌≡◌, sym, ◌∙◌, subst}
+use mathlib.Core.Path.{◌≡◌, sym, ap, ap₂, ◌∙◌, subst}
 use Prim.Native.Nat.{ℕ, suc, ◌+◌, ◌*◌, ◌/◌, ◌%◌, ◌^◌, ◌<◌}
 use native.Mathlib.Nat.{mul-one}
 use native.Mathlib.Omega.{arith}
 use mathlib.Core.Bool.{Bool, true, false, cond}
+use borrow.Author.Tests.{lt-leb}
 use lib.Dec.{T, leb, eqb, eqb→eq}
 use lib.Ieee.{Float, nan, inf, binary64, odd, of_fields, to_bits, fits}
 use lib.Ieee.Bits.{of_bits-to_bits}
 use lib.Ieee.Exact.{odd_sign}
+use Rattle.number.specs.Operators.{bits}
 use Rattle.number.proofs.Values.{Is, bits_is}
 
 abbrev pub at : Bool → ℕ → ℕ → Float
@@ -30,3 +32,16 @@ normal s k t h = go (eqb (suc k) 2047) (eqb→eq (suc k) 2047)
 
 pub fields : (x : Float) → T (fits binary64 x) → let b = to_bits binary64 x in x ≡ at (leb (2 ^ 63) b) (b % 2 ^ 63 / 2 ^ 52) (b % 2 ^ 52)
 fields x h = sym (of_bits-to_bits binary64 x h) ∙ bits_is (to_bits binary64 x)
+
+-- ---- by a pattern whose sign bit is 0
+
+pub plain_bits : (b : ℕ) → b / 2 ^ 52 < 2048 → bits b ≡ at false (b / 2 ^ 52) (b % 2 ^ 52)
+plain_bits b h =
+    let e : b % 2 ^ 63 / 2 ^ 52 ≡ b / 2 ^ 52 = omega arith in
+    bits_is b ∙ ap (λ (s : Bool). at s (b % 2 ^ 63 / 2 ^ 52) (b % 2 ^ 52)) (lt-leb (2 ^ 63) b (omega arith)) ∙ ap (λ (n : ℕ). at false n (b % 2 ^ 52)) e
+
+pub normal_bits : (b k t : ℕ) → b ≡ t + suc k * 2 ^ 52 → t < 2 ^ 52 → suc k < 2047 → Is (bits b) false ((2 ^ 52 + t) * 2 ^ k)
+normal_bits b k t q h l =
+    let e : b / 2 ^ 52 ≡ suc k = omega arith in
+    let f : b % 2 ^ 52 ≡ t = omega arith in
+    subst (λ (x : Float). Is x false ((2 ^ 52 + t) * 2 ^ k)) (sym (plain_bits b (omega arith) ∙ ap₂ (at false) e f)) (normal false k t l)

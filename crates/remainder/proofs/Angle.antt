@@ -18,8 +18,7 @@ use Rattle.loops.specs.Loop.{pick}
 use Rattle.number.specs.Operators.{◌⊖◌, ◌⊗◌, ◌==?◌, bits}
 use Rattle.number.specs.Helpers.{positive_zero}
 use Rattle.number.specs.Words.{high_word, magnitude_bits}
-use Rattle.number.proofs.Values.{Is, bits_is}
-use Rattle.number.proofs.Fields.{at, normal}
+use Rattle.number.proofs.Fields.{normal_bits}
 use Rattle.remainder.specs.Machine.{double, int}
 use Rattle.remainder.specs.Kernel.{two24}
 use Rattle.remainder.specs.Large.{scaled_of, e0_of, pieces_of, jx_of, jv_of, q0_of}
@@ -51,16 +50,9 @@ exponent_range x h l =
 -- "set z = scalbn(|x|,ilogb(x)-23)"
 scaled_is : (x : Float) → Of (scaled_of x) (significand_of x) 29
 unfolding scaled_of
-scaled_is x = (lit≤ tt, go (magnitude_bits x % 2 ^ 52) (omega arith))
-  where
-    go : (t : ℕ) → t < 2 ^ 52 → Is (bits (t + 1046 * 2 ^ 52)) false ((2 ^ 52 + t) * 2 ^ 1045)
-    go t h =
-        let b = t + 1046 * 2 ^ 52 in
-        let parts : at (leb (2 ^ 63) b) (b % 2 ^ 63 / 2 ^ 52) (b % 2 ^ 52) ≡ at false 1046 t =
-        ap (λ (s : Bool). at s (b % 2 ^ 63 / 2 ^ 52) (b % 2 ^ 52)) (lt-leb (2 ^ 63) b (omega arith))
-        ∙ ap (λ (n : ℕ). at false n (b % 2 ^ 52)) (let i : b % 2 ^ 63 / 2 ^ 52 ≡ 1046 = omega arith in i)
-        ∙ ap (λ (n : ℕ). at false 1046 n) (let i : b % 2 ^ 52 ≡ t = omega arith in i) in
-        subst (λ (x : Float). Is x false ((2 ^ 52 + t) * 2 ^ 1045)) (sym (bits_is b ∙ parts)) (normal false 1045 t (lit≤ tt))
+scaled_is x =
+    let t = magnitude_bits x % 2 ^ 52 in
+    (lit≤ tt, normal_bits (t + 1046 * 2 ^ 52) 1045 t refl (omega arith) (lit< tt))
 
 -- tx holds the pieces of the significand m
 pub record Pieces (m : ℕ) (tx : List Float) : Type 0 where

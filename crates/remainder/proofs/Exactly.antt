@@ -18,9 +18,9 @@ use Rattle.number.specs.Operators.{◌⊕◌, ◌⊖◌, ◌⊗◌, ◌==?◌, b
 use Rattle.number.specs.Helpers.{positive_zero, one}
 use Rattle.number.specs.Units.{units_in_one}
 use Rattle.number.proofs.Powers.{pow_sum}
-use Rattle.number.proofs.Values.{Is, Held, add_is, sub_is, mul_is, bits_is}
+use Rattle.number.proofs.Values.{Is, Held, add_is, sub_is, mul_is}
 use Rattle.number.proofs.Sums.{round_held}
-use Rattle.number.proofs.Fields.{at, normal}
+use Rattle.number.proofs.Fields.{normal_bits}
 use Rattle.remainder.specs.Machine.{double, int, power, scalbn}
 use Rattle.remainder.specs.Kernel.{two24, twon24, eight, eighth}
 use Rattle.remainder.proofs.Truncation.{cut, shift}
@@ -129,24 +129,11 @@ pub zero_of : Of positive_zero 0 0
 unfolding of_bits
 zero_of = (zero-le, (refl, refl))
 
--- the number whose bits have e + 1 in the exponent's field and 0 elsewhere
-field_is : (e : ℕ) → suc e < 2047 → Is (bits (suc e * 2 ^ 52)) false (2 ^ 52 * 2 ^ e)
-field_is e h =
-    let b = suc e * 2 ^ 52 in
-    subst (λ (x : Float). Is x false (2 ^ 52 * 2 ^ e)) (sym (bits_is b ∙ parts)) (normal false e 0 h)
-  where
-    parts : at (leb (2 ^ 63) (suc e * 2 ^ 52)) (suc e * 2 ^ 52 % 2 ^ 63 / 2 ^ 52) (suc e * 2 ^ 52 % 2 ^ 52) ≡ at false (suc e) 0
-    parts =
-        ap (λ (s : Bool). at s (suc e * 2 ^ 52 % 2 ^ 63 / 2 ^ 52) (suc e * 2 ^ 52 % 2 ^ 52)) (lt-leb (2 ^ 63) (suc e * 2 ^ 52) (omega arith))
-        ∙ ap (λ (n : ℕ). at false n (suc e * 2 ^ 52 % 2 ^ 52)) (let i : suc e * 2 ^ 52 % 2 ^ 63 / 2 ^ 52 ≡ suc e = omega arith in i)
-        ∙ ap (λ (n : ℕ). at false (suc e) n) (let i : suc e * 2 ^ 52 % 2 ^ 52 ≡ 0 = omega arith in i)
-
 power_down_of : (n : ℕ) → n ≤ 1000 → Of (power (negsuc n)) 1 (n + 1)
 power_down_of n h = (
   omega arith,
-  subst (λ (i : ℕ). Is (bits (i * 2 ^ 52)) false (1 * 2 ^ (1074 - (n + 1)))) (let e : suc (1021 - n) ≡ 1022 - n = omega arith in e)
-      (subst (Is (bits (suc (1021 - n) * 2 ^ 52)) false)
-      (pow_sum 52 (1021 - n) (1074 - (n + 1)) (omega arith) ∙ sym (one-mul (2 ^ (1074 - (n + 1))))) (field_is (1021 - n) (omega arith))),
+  subst (Is (power (negsuc n)) false) (pow_sum 52 (1021 - n) (1074 - (n + 1)) (omega arith) ∙ sym (one-mul (2 ^ (1074 - (n + 1)))))
+      (normal_bits ((1022 - n) * 2 ^ 52) (1021 - n) 0 (omega arith) (lit< tt) (omega arith)),
 )
 
 pub scalbn_of : (x : Float) (A n : ℕ) → Of x A 0 → A ≤ 2 ^ 53 → n ≤ 1000 → Of (scalbn x (negsuc n)) A (n + 1)

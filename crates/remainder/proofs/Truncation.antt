@@ -11,12 +11,13 @@ use borrow.Author.Tests.{le-leb, lt-leb}
 use lib.Bits.{bit_and, and_mask}
 use lib.Pow.{pow_pos, pow_mono, shl_lt, shr_lt}
 use lib.Ieee.{Float, nan, inf, fin, binary64, up, down, odd, of_fields, to_bits, fits, is_nan, to_unsigned}
+use lib.Ieee.Bits.{of_bits-to_bits}
 use lib.Ieee.Fits.{down_pos}
 use lib.Ieee.Exact.{HasValue, odd_sign}
 use lib.Ieee.Nearest.{div_same}
 use Rattle.std.proofs.Common.{zero-le}
 use Rattle.number.proofs.Powers.{pow_sum}
-use Rattle.number.proofs.Fields.{at, subnormal, normal, fields}
+use Rattle.number.proofs.Fields.{at, subnormal, normal, fields, plain_bits}
 
 abbrev pub most : ℕ → ℕ
 most w = 2 ^ w - 1
@@ -128,19 +129,10 @@ negative w (suc k) t = go (eqb (suc k) 2047)
     go true = top (eqb t 0)
     go false = cut_negative w (odd 53 true (2 ^ 52 + t) k 1074) ((2 ^ 52 + t) * 2 ^ k) (2 ^ 1074) (odd_sign 53 true (2 ^ 52 + t) k 1074)
 
--- ---- the exponent is read with the sign bit above it
-plain_field : (b : ℕ) → b / 2 ^ 52 < 2048 → b % 2 ^ 63 / 2 ^ 52 ≡ b / 2 ^ 52
-plain_field b h = omega arith
-
-plain_sign : (b : ℕ) → b / 2 ^ 52 < 2048 → leb (2 ^ 63) b ≡ false
-plain_sign b h = lt-leb (2 ^ 63) b (omega arith)
-
 -- ---- the four cases of the code
 module _ (w : ℕ) (m : w ≤ 53) (x : Float) (f : T (fits binary64 x)) where
   plain : to_bits binary64 x / 2 ^ 52 < 2048 → x ≡ at false (to_bits binary64 x / 2 ^ 52) (to_bits binary64 x % 2 ^ 52)
-  plain h =
-      let b = to_bits binary64 x in
-      fields x f ∙ ap (λ (s : Bool). at s (b % 2 ^ 63 / 2 ^ 52) (b % 2 ^ 52)) (plain_sign b h) ∙ ap (λ (e : ℕ). at false e (b % 2 ^ 52)) (plain_field b h)
+  plain h = sym (of_bits-to_bits binary64 x f) ∙ plain_bits (to_bits binary64 x) h
 
   digits : to_bits binary64 x % 2 ^ 52 < 2 ^ 52
   digits = mod-lt (to_bits binary64 x) (pow_pos 52)
