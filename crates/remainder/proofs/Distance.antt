@@ -8,7 +8,7 @@ use native.Mathlib.Nat.{mul_assoc, mul-le-mul_left, mul-le-mul_right, mul-le-mul
 use native.Mathlib.Omega.{arith}
 use lib.Dec.{ltb}
 use lib.ListN.{get_or}
-use lib.Pow.{pow_pos, pow-add, pow_mono}
+use lib.Pow.{pow_pos, pow_mono}
 use borrow.Author.Tests.{ltb-true, le-ltb}
 use Rattle.std.proofs.lemmas.Bool.{cases_lt, and_parts}
 use Rattle.loops.specs.Loop.{pick}
@@ -223,31 +223,23 @@ abbrev pub gap_at : (e jz : ℕ) → ℕ
 gap_at e jz = 2 ^ (24 * jz + 960 - raised_q0 e)
 
 -- no digit before the first
-first_none : (digits 2 0 ≡ 0) × (digits 1 0 ≡ 0)
+none_before : (v X0 X1 : ℕ) → v ≡ 0 → X0 * digits 2 v + X1 * digits 1 v ≡ 0
 unfolding digits
-first_none = (refl, refl)
+none_before v X0 X1 e = ap (λ (v : ℕ). X0 * digits 2 v + X1 * digits 1 v) e ∙ omega arith
 
--- The part above is a multiple of the modulus: the weight of its digits is one, or there are no such digits.
-above_is : (e X0 X1 : ℕ) → 1043 ≤ e → e ≤ 2046 → (h : ℕ) × ((X0 * digits 2 (jv e) + X1 * digits 1 (jv e)) * 2 ^ 240 ≡ h * 2 ^ (1239 - raised_q0 e))
-above_is e X0 X1 h l = ⊎_elim few many (cases_lt e 1049)
-  where
-    few : e < 1049 → (h : ℕ) × ((X0 * digits 2 (jv e) + X1 * digits 1 (jv e)) * 2 ^ 240 ≡ h * 2 ^ (1239 - raised_q0 e))
-    few k =
-        let z : jv e ≡ 0 = omega arith in
-        let a : digits 2 (jv e) ≡ 0 = ap (digits 2) z ∙ first_none.0 in
-        let b : digits 1 (jv e) ≡ 0 = ap (digits 1) z ∙ first_none.1 in
-        let f : X0 * digits 2 (jv e) + X1 * digits 1 (jv e) ≡ 0 = omega (arith, ap (λ (x : ℕ). X0 * x) a, ap (λ (x : ℕ). X1 * x) b) in
-        let g : 0 ≡ 0 * 2 ^ (1239 - raised_q0 e) = omega arith in
-        (0, ap (λ (x : ℕ). x * 2 ^ 240) f ∙ g)
-
-    many : 1049 ≤ e → (h : ℕ) × ((X0 * digits 2 (jv e) + X1 * digits 1 (jv e)) * 2 ^ 240 ≡ h * 2 ^ (1239 - raised_q0 e))
-    many k =
-        let H = X0 * digits 2 (jv e) + X1 * digits 1 (jv e) in
-        let p : 240 ≡ 240 - (1239 - raised_q0 e) + (1239 - raised_q0 e) = omega arith in (
-          H * 2 ^ (240 - (1239 - raised_q0 e)),
-          ap (λ (x : ℕ). H * 2 ^ x) p ∙ ap (λ (x : ℕ). H * x) (pow-add 2 (240 - (1239 - raised_q0 e)) (1239 - raised_q0 e))
-              ∙ sym (mul_assoc H (2 ^ (240 - (1239 - raised_q0 e))) (2 ^ (1239 - raised_q0 e))),
-        )
+-- The part H above is a multiple of the modulus: the weight of its digits is one, or there are no such digits.
+above_is : (e H : ℕ) → e ≤ 2046 → (jv e ≡ 0 → H ≡ 0) → (h : ℕ) × (H * 2 ^ 240 ≡ h * 2 ^ (1239 - raised_q0 e))
+above_is e H l z =
+    let b = 1239 - raised_q0 e in
+    ⊎_elim
+    (λ k.
+    let g : 0 ≡ 0 * 2 ^ b = omega arith in
+    (0, ap (λ (x : ℕ). x * 2 ^ 240) (z (omega arith)) ∙ g))
+    (λ k. (
+      H * 2 ^ (240 - b),
+      ap (λ (x : ℕ). H * x) (sym (pow_sum (240 - b) b 240 (omega arith))) ∙ sym (mul_assoc H (2 ^ (240 - b)) (2 ^ b)),
+    ))
+    (cases_lt e 1049)
 
 -- what is away from the multiples of P w by 2 P l, less a multiple and a rest, over P
 apart_by : (M L x h P w l t R : ℕ) → 0 < P → 0 < w → 0 < l → M ≡ P * w → L ≡ P * (2 * l) → x ≡ h * M + (P * t + R) → R ≤ P * l → Clear M L x
@@ -268,7 +260,7 @@ terms_apart e h l {m} {X0} {X1} {X2} p jz j0 j1 =
     let b = modulus_bits e in
     let P = 2 ^ (24 * (r + 2)) in
     let R = rest_of v X0 X1 X2 n r in
-    let u = above_is e X0 X1 h l in
+    let u = above_is e (X0 * digits 2 v + X1 * digits 1 v) l (none_before v X0 X1) in
     let M = 2 ^ 19 * 2 ^ b in
     let g : M ≡ 2 ^ (1239 - s) = pow_sum 19 b (1239 - s) (omega arith) in
     let em : M ≡ P * one_at e jz = g ∙ sym (pow_sum (24 * (r + 2)) (24 * jz + 1023 - s) (1239 - s) (omega arith)) in
