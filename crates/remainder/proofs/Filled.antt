@@ -25,13 +25,13 @@ use Rattle.remainder.proofs.Entries.{entries_set}
 use Rattle.remainder.proofs.Exactly.{Of, double_of, plus_of, times_of, zero_of}
 
 -- the first n entries are whole numbers
-abbrev pub Hold : (ℕ → ℕ) → ℕ → List Float → Type 0
+abbrev Hold : (ℕ → ℕ) → ℕ → List Float → Type 0
 Hold F n l = (i : ℕ) → i < n → Of (get_or l i nan) (F i) 0
 
 -- ---- the digits
 
 -- what f[n] holds: the digit jv - jx + n, or 0 before the first
-abbrev pub digit_in : (jv jx n : ℕ) → ℕ
+abbrev digit_in : (jv jx n : ℕ) → ℕ
 digit_in jv jx n = digit_at (jv + n) jx
 
 table_digit : (i : ℕ) → Of (double (get_or two_over_pi i 0)) (get_or two_over_pi i 0) 0
@@ -117,7 +117,7 @@ module _ {m : ℕ} {tx : List Float} (p : Pieces m tx) (D : ℕ → ℕ) (d : (j
           (plus_of y (x ⊗ v) (products j) (piece j * D j) 0 o
           (times_of x v (piece j) (D j) 0 0 (piece_is j few).0 (h j (omega arith)) (omega (arith, b)) zero-le) (omega (arith, b)))
 
-  pub sum_below : p.X0 * D 0 + p.X1 * D 1 + p.X2 * D 2 < 2 ^ 50
+  sum_below : p.X0 * D 0 + p.X1 * D 1 + p.X2 * D 2 < 2 ^ 50
   sum_below = let b = products_below 3 (omega arith) in omega (arith, b)
 
 module _ {m : ℕ} {tx : List Float} (p : Pieces m tx) (jv jx : ℕ) (last : Last p.X1 p.X2 jx) where

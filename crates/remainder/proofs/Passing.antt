@@ -119,21 +119,15 @@ opposite_small j false h = go (eqb j 0) (eqb-false j 0)
     go true n = lit< tt
     go false n = let z = n refl in omega (arith, z)
 
--- after i iterations
-record Turning (iq : List ℕ) (i : ℕ) (s : Complemented) : Type 0 where
-  pub small : Digits s.digits i
-  pub kept : length s.digits ≡ length iq
-  pub same : (k : ℕ) → i ≤ k → get_or s.digits k 0 ≡ get_or iq k 0
-  pub sums : Opposite (value_of iq i) (value_of s.digits i) (2 ^ (24 * i)) s.carry
-
--- the complement of n digits: all 0 with no carry where they were, and else what is left to 2 ^ (24 n)
+-- the complement of the first n digits: all 0 with no carry where they were, and else what is left to 2 ^ (24 n)
 record Complement (iq : List ℕ) (n : ℕ) (s : Complemented) : Type 0 where
   pub small : Digits s.digits n
   pub kept : length s.digits ≡ length iq
+  pub same : (k : ℕ) → n ≤ k → get_or s.digits k 0 ≡ get_or iq k 0
   pub sums : Opposite (value_of iq n) (value_of s.digits n) (2 ^ (24 * n)) s.carry
 
 module _ (iq : List ℕ) (n : ℕ) (d : Digits iq n) (room : n ≤ length iq) where
-  turn : (i : ℕ) (s : Complemented) → i < n → Turning iq i s → Turning iq (i + 1) (complement_step i s)
+  turn : (i : ℕ) (s : Complemented) → i < n → Complement iq i s → Complement iq (i + 1) (complement_step i s)
   turn i s h a =
       let j = get_or s.digits i 0 in
       let o = opposite_of j s.carry in
@@ -153,10 +147,8 @@ module _ (iq : List ℕ) (n : ℕ) (d : Digits iq n) (room : n ≤ length iq) wh
   complement_is : Complement iq n (complement_of iq n)
   unfolding complement_of
   complement_is =
-      let start : Turning iq 0 (complemented iq false) =
-      record { small = λ i h. absurd (omega arith); kept = refl; same = λ k h. refl; sums = (refl, refl) } in
-      let a = ranged_keeps_at complement_step (Turning iq) 0 n turn zero-le (complemented iq false) start in
-      record { small = a.small; kept = a.kept; sums = a.sums }
+      ranged_keeps_at complement_step (Complement iq) 0 n turn zero-le (complemented iq false)
+      (record { small = λ i h. absurd (omega arith); kept = refl; same = λ k h. refl; sums = (refl, refl) })
 
 -- ---- the last digit's lower bits
 
