@@ -72,7 +72,8 @@ piece_is z m k p K h l =
     let d = z ⊖ double (int z) in
     let f : r * 2 ^ 24 ≤ 2 ^ 53 = few r (2 ^ k) (mod-lt m (pow_pos k)) (pow_mono {i = k} {j = 29} K) in (
       floor_of z m k p (omega arith),
-      subst (Of (d ⊗ two24) (r * 2 ^ 24)) (add-zero k) (times_of d two24 r (2 ^ 24) k 0 (fraction_of z m k p (omega arith) (omega arith)) two24_of f (omega arith)),
+      subst (Of (d ⊗ two24) (r * 2 ^ 24)) (add-zero k)
+          (times_of d two24 r (2 ^ 24) k 0 (fraction_of z m k p (omega arith) (omega arith)) two24_of f (omega arith)),
     )
   where
     few : (r q : ℕ) → r < q → q ≤ 2 ^ 29 → r * 2 ^ 24 ≤ 2 ^ 53

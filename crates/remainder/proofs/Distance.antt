@@ -169,7 +169,8 @@ product_of X B A a p d q r G P e f g = omega (arith, ap (λ (z : ℕ). X * B * z
 piece_times : (X b A a k d n r m : ℕ) → A ≡ a * 2 ^ (24 * k) + (d * 2 ^ (24 * n) + r) → b + 24 * k ≡ 24 * 10 → b + 24 * n ≡ 24 * m
     → X * 2 ^ b * A ≡ X * a * 2 ^ (24 * 10) + (X * d * 2 ^ (24 * m) + X * (2 ^ b * r))
 piece_times X b A a k d n r m e f g =
-    product_of X (2 ^ b) A a (2 ^ (24 * k)) d (2 ^ (24 * n)) r (2 ^ (24 * 10)) (2 ^ (24 * m)) e (pow_sum b (24 * k) (24 * 10) f) (pow_sum b (24 * n) (24 * m) g)
+    product_of X (2 ^ b) A a (2 ^ (24 * k)) d (2 ^ (24 * n)) r (2 ^ (24 * 10)) (2 ^ (24 * m)) e
+    (pow_sum b (24 * k) (24 * 10) f) (pow_sum b (24 * n) (24 * m) g)
 
 last_times : (x A d P r : ℕ) → A ≡ d * P + r → x * A ≡ x * d * P + x * r
 last_times x A d P r e = omega (arith, ap (λ (z : ℕ). x * z) e)

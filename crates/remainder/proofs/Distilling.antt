@@ -103,7 +103,14 @@ module _ (q : List Float) (Q : ℕ → ℕ) (jz : ℕ) (iq : List ℕ) (are : (i
   unfolding distill_of
   distill_is =
       let a = ranged_keeps_at (distill_step q jz) (After Q jz iq) 0 jz step zero-le (distilled iq (get_or q jz nan)) start in
-      record { rest = a.rest; is = a.is; under = a.under; small = a.small; kept = a.kept; exact = end (value_of (distill_of q jz iq).digits jz) a.rest jz a.exact }
+      record {
+        rest = a.rest;
+        is = a.is;
+        under = a.under;
+        small = a.small;
+        kept = a.kept;
+        exact = end (value_of (distill_of q jz iq).digits jz) a.rest jz a.exact;
+      }
     where
       start : After Q jz iq 0 (distilled iq (get_or q jz nan))
       start = record {

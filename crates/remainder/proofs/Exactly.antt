@@ -39,7 +39,8 @@ held A j h = go (eq-or-lt_of_le h)
     go (inr l) = (A, j, l, refl)
 
 under_top : (A j : ℕ) → A ≤ 2 ^ 53 → j ≤ 1074 → A * 2 ^ j < 2 ^ 2098
-under_top A j h l = lt_of_le_of_lt (le_trans (mul-le-mul_right (2 ^ j) h) (le_of_eq (pow_sum 53 j (53 + j) refl))) (pow-lt {i = 53 + j} {j = 2098} (omega arith))
+under_top A j h l =
+    lt_of_le_of_lt (le_trans (mul-le-mul_right (2 ^ j) h) (le_of_eq (pow_sum 53 j (53 + j) refl))) (pow-lt {i = 53 + j} {j = 2098} (omega arith))
 
 -- n / c is A / 2 ^ k
 round_of : (n c A k : ℕ) → 0 < c → A ≤ 2 ^ 53 → k ≤ 1074 → n * units_in_one ≡ A * 2 ^ (1074 - k) * c → Of (round binary64 false n c) A k
@@ -139,7 +140,8 @@ power_down_of n h = (
 pub scalbn_of : (x : Float) (A n : ℕ) → Of x A 0 → A ≤ 2 ^ 53 → n ≤ 1000 → Of (scalbn x (negsuc n)) A (n + 1)
 scalbn_of x A n p l h =
     subst (λ (i : ℕ). Of (scalbn x (negsuc n)) i (n + 1)) (mul-one A)
-    (subst (Of (scalbn x (negsuc n)) (A * 1)) (zero-add (n + 1)) (times_of x (power (negsuc n)) A 1 0 (n + 1) p (power_down_of n h) (omega arith) (omega arith)))
+    (subst (Of (scalbn x (negsuc n)) (A * 1)) (zero-add (n + 1))
+    (times_of x (power (negsuc n)) A 1 0 (n + 1) p (power_down_of n h) (omega arith) (omega arith)))
 
 -- ---- the whole part
 

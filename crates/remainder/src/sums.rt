@@ -1,7 +1,8 @@
 //! The angle that is left, from its digits: k_rem_pio2.c from "chop off zero terms" to its end, for prec 2.
 
 ghost use Rattle.std.specs.Prelude.{◌≡◌, ◌≤◌, ◌<◌, ◌+◌, ◌≤ℤ◌, pos, negsuc};
-ghost use Rattle.remainder.specs.Kernel.{chopped, chop_of, break_of, chopped_of, values_of, part_of, parts_of, down_of, up_of, by_half, compressed_of, finish_of};
+ghost use Rattle.remainder.specs.Kernel.{chopped, chop_of, break_of, chopped_of, values_of};
+ghost use Rattle.remainder.specs.Kernel.{part_of, parts_of, down_of, up_of, by_half, compressed_of, finish_of};
 
 use crate::digits::{Pass, TWO24, TWON24};
 use crate::machine::{int, scalbn};

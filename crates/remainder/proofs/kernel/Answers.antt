@@ -18,11 +18,12 @@ use Rattle.number.specs.Operators.{◌==?◌}
 use Rattle.number.specs.Helpers.{positive_zero}
 use Rattle.remainder.specs.declared.Reduction.{Reduction}
 use Rattle.remainder.specs.declared.digits.Pass.{Pass}
-use Rattle.remainder.specs.Kernel.{Terms, terms, Passed, passed, pass_of, joined_of, needed_of, more_of, finish_of, again, kernel_step, kernel_of, exhausted, room}
+use Rattle.remainder.specs.Kernel.{Terms, terms, Passed, passed, pass_of, joined_of, needed_of, more_of, finish_of, again, kernel_step, kernel_of}
+use Rattle.remainder.specs.Kernel.{exhausted, room}
 use Rattle.remainder.proofs.kernel.Goals as goal
 
 -- an iteration, by what its pass leaves
-module _ (x : List Float) (jx jv : ℕ) (q0 : ℤ) (i : ℕ) (s : Terms) (iq : List ℕ) (p : Pass) (e : passed iq p ≡ pass_of (replicate room 0) s.q s.jz q0) where
+module _ (x : List Float) (jx jv : ℕ) (q0 : ℤ) (i : ℕ) (s : Terms) {iq : List ℕ} {p : Pass} (e : passed iq p ≡ pass_of (replicate room 0) s.q s.jz q0) where
   -- what follows a pass
   after : Bool → Bool → Flow Terms Reduction
   after a b = pick a (pick b (again x jx jv s (needed_of iq)) (out (finish_of iq p s.q s.jz q0))) (out (finish_of iq p s.q s.jz q0))
@@ -30,8 +31,9 @@ module _ (x : List Float) (jx jv : ℕ) (q0 : ℤ) (i : ℕ) (s : Terms) (iq : L
   by_pass : kernel_step x jx jv q0 i s ≡ after (p.z ==? positive_zero) (eqb (joined_of iq s.jz) 0)
   unfolding after
   by_pass =
-      ap (λ (d : Passed). pick (d.pass.z ==? positive_zero) (pick (eqb (joined_of d.digits s.jz) 0) (again x jx jv s (needed_of d.digits)) (out (finish_of d.digits d.pass s.q s.jz q0))) (out (finish_of d.digits d.pass s.q s.jz q0)))
-      (sym e)
+      ap (λ (d : Passed). pick (d.pass.z ==? positive_zero)
+      (pick (eqb (joined_of d.digits s.jz) 0) (again x jx jv s (needed_of d.digits)) (out (finish_of d.digits d.pass s.q s.jz q0)))
+      (out (finish_of d.digits d.pass s.q s.jz q0))) (sym e)
 
   enough : false ≡ pick (p.z ==? positive_zero) (eqb (joined_of iq s.jz) 0) false → kernel_step x jx jv q0 i s ≡ out (finish_of iq p s.q s.jz q0)
   unfolding after
@@ -55,13 +57,13 @@ module _ (x : List Float) (jx jv : ℕ) (q0 : ℤ) (i : ℕ) (s : Terms) (iq : L
   none_needed : true ≡ pick (p.z ==? positive_zero) (eqb (joined_of iq s.jz) 0) false → None ≡ needed_of iq → kernel_step x jx jv q0 i s ≡ out exhausted
   none_needed h n = too_few h ∙ ap (again x jx jv s) (sym n)
 
-  no_room : (k : ℕ) → true ≡ pick (p.z ==? positive_zero) (eqb (joined_of iq s.jz) 0) false → Some k ≡ needed_of iq → 19 < jx + s.jz + k
+  no_room : {k : ℕ} → true ≡ pick (p.z ==? positive_zero) (eqb (joined_of iq s.jz) 0) false → Some k ≡ needed_of iq → 19 < jx + s.jz + k
       → kernel_step x jx jv q0 i s ≡ out exhausted
-  no_room k h n l = too_few h ∙ ap (again x jx jv s) (sym n) ∙ rw (lt-ltb 19 (jx + s.jz + k) l) refl
+  no_room {k} h n l = too_few h ∙ ap (again x jx jv s) (sym n) ∙ rw (lt-ltb 19 (jx + s.jz + k) l) refl
 
-  goes_on : (k : ℕ) (f q : List Float) → true ≡ pick (p.z ==? positive_zero) (eqb (joined_of iq s.jz) 0) false → Some k ≡ needed_of iq → jx + s.jz + k ≤ 19
+  goes_on : {k : ℕ} {f q : List Float} → true ≡ pick (p.z ==? positive_zero) (eqb (joined_of iq s.jz) 0) false → Some k ≡ needed_of iq → jx + s.jz + k ≤ 19
       → terms f q s.jz ≡ more_of x jx jv k s → kernel_step x jx jv q0 i s ≡ on (terms f q (s.jz + k))
-  goes_on k f q h n l m =
+  goes_on {k} h n l m =
       too_few h ∙ ap (again x jx jv s) (sym n) ∙ rw (le-ltb 19 (jx + s.jz + k) l) (ap (λ (t : Terms). on (terms t.f t.q (s.jz + k))) (sym m))
 
 -- NaNs
@@ -82,7 +84,7 @@ returns-then-not-too_few c =
     let s = c.loop in
     let q0 = c.args.q0 in
     let fit = to_z-of_z w32 q0 c.ranges.q0 in
-    let e = enough c.args.x.now c.args.jx c.args.jv q0 s.counter (terms s.f s.q s.jz) c.one_pass-at.new.iq c.one_pass-at.result (rw fit at c.one_pass-at.ensures)
+    let e = enough c.args.x.now c.args.jx c.args.jv q0 s.counter (terms s.f s.q s.jz) (rw fit at c.one_pass-at.ensures)
     (sym c.if-not-too_few.true ∙ c.too_few.ensures) in
     rw fit at c.finish.ensures ∙ searched_leave _ _ _ _ c.loop-test.true e (rw fit at s.invariant.found)
 
@@ -91,7 +93,7 @@ returns-in_default c =
     let s = c.loop in
     let q0 = c.args.q0 in
     let fit = to_z-of_z w32 q0 c.ranges.q0 in
-    let e = none_needed c.args.x.now c.args.jx c.args.jv q0 s.counter (terms s.f s.q s.jz) c.one_pass-at.new.iq c.one_pass-at.result (rw fit at c.one_pass-at.ensures)
+    let e = none_needed c.args.x.now c.args.jx c.args.jv q0 s.counter (terms s.f s.q s.jz) (rw fit at c.one_pass-at.ensures)
     (sym c.if-not-too_few.false ∙ c.too_few.ensures) (sym c.in_default.is ∙ c.needed.ensures) in
     none ∙ searched_leave _ _ _ _ c.loop-test.true e (rw fit at s.invariant.found)
 
@@ -100,8 +102,8 @@ returns-then-jx-jz c =
     let s = c.loop in
     let q0 = c.args.q0 in
     let fit = to_z-of_z w32 q0 c.ranges.q0 in
-    let e = no_room c.args.x.now c.args.jx c.args.jv q0 s.counter (terms s.f s.q s.jz) c.one_pass-at.new.iq c.one_pass-at.result (rw fit at c.one_pass-at.ensures)
-    c.in-Some.k (sym c.if-not-too_few.false ∙ c.too_few.ensures) (sym c.in-Some.is ∙ c.needed.ensures) (omega arith) in
+    let e = no_room c.args.x.now c.args.jx c.args.jv q0 s.counter (terms s.f s.q s.jz) (rw fit at c.one_pass-at.ensures)
+    (sym c.if-not-too_few.false ∙ c.too_few.ensures) (sym c.in-Some.is ∙ c.needed.ensures) (omega arith) in
     none ∙ searched_leave _ _ _ _ c.loop-test.true e (rw fit at s.invariant.found)
 
 pub loop-preserved : goal.loop-preserved
@@ -109,9 +111,13 @@ loop-preserved c =
     let s = c.loop in
     let q0 = c.args.q0 in
     let fit = to_z-of_z w32 q0 c.ranges.q0 in
-    let e = goes_on c.args.x.now c.args.jx c.args.jv q0 s.counter (terms s.f s.q s.jz) c.one_pass-at.new.iq c.one_pass-at.result (rw fit at c.one_pass-at.ensures)
-    c.in-Some.k c.more.new.f c.more.new.q (sym c.if-not-too_few.false ∙ c.too_few.ensures) (sym c.in-Some.is ∙ c.needed.ensures) (omega arith) c.more.ensures in
-    record { found = rw fit (searched_again _ _ _ _ c.loop-test.true e (rw fit at s.invariant.found)); from = omega (arith, s.invariant.from); to = omega arith }
+    let e = goes_on c.args.x.now c.args.jx c.args.jv q0 s.counter (terms s.f s.q s.jz) (rw fit at c.one_pass-at.ensures)
+    (sym c.if-not-too_few.false ∙ c.too_few.ensures) (sym c.in-Some.is ∙ c.needed.ensures) (omega arith) c.more.ensures in
+    record {
+      found = rw fit (searched_again _ _ _ _ c.loop-test.true e (rw fit at s.invariant.found));
+      from = omega (arith, s.invariant.from);
+      to = omega arith;
+    }
 
 pub returns : goal.returns
 returns c = none ∙ searched_done _ _ _ _ c.loop-test.false (rw (to_z-of_z w32 _ c.ranges.q0) at c.loop.invariant.found)

@@ -7,5 +7,5 @@ use Rattle.remainder.proofs.digits.one_pass.Goals as goal
 pub returns : goal.returns
 unfolding pass_of
 returns c =
-    c.turned.ensures
-    ∙ rw (c.cut-at.ensures.is, to_z-of_z w32 _ c.ranges.q0, c.int-n.ensures.is, c.trimmed-whole.ensures, to_z-of_z w32 _ c.ranges.q0, ← c.distill-rest.ensures) refl
+    let fit = to_z-of_z w32 _ c.ranges.q0 in
+    c.turned.ensures ∙ rw (c.cut-at.ensures.is, fit, c.int-n.ensures.is, c.trimmed-whole.ensures, fit, ← c.distill-rest.ensures) refl

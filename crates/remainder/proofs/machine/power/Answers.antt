@@ -1,3 +1,4 @@
+-- The bits are no NaN: the exponent field of 2 ^ n is n + 1023, below 2047.
 use mathlib.Core.Path.{◌≡◌, sym, subst}
 use Prim.Native.Nat.{ℕ, ◌+◌, ◌-◌, ◌*◌, ◌%◌, ◌^◌, ◌<◌, ◌≤◌}
 use native.Mathlib.Omega.{arith}
@@ -24,7 +25,9 @@ field_below : (n : ℕ) → n ≤ 1021 → field (negsuc n) ≡ 1022 - n
 field_below n h = omega (arith, ints)
 
 no_nan : (b : ℕ) → b < 2047 → T (not (nan_bits binary64 (b * 2 ^ 52 % 2 ^ 64)))
-no_nan b h = subst (λ (t : Bool). T (not t)) (sym (nan_bits_above binary64 (b * 2 ^ 52 % 2 ^ 64))) (le→nltb 0x7ff0000000000000 (b * 2 ^ 52 % 2 ^ 64 % 2 ^ 63) (omega arith))
+no_nan b h =
+    let n = b * 2 ^ 52 % 2 ^ 64 in
+    subst (λ (t : Bool). T (not t)) (sym (nan_bits_above binary64 n)) (le→nltb 0x7ff0000000000000 (n % 2 ^ 63) (omega arith))
 
 in_field : (n : ℤ) → negsuc 1021 ≤ℤ n → n ≤ℤ pos 1023 → field n < 2047
 in_field (pos n) l h = omega (arith, ints, field_above n (omega (arith, ints)))

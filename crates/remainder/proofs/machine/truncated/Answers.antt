@@ -1,3 +1,4 @@
+-- The four cases of the code, by the exponent as it is read.
 use mathlib.Core.Path.{◌≡◌, sym, ap, ◌∙◌, subst}
 use Prim.Native.Nat.{ℕ, ◌-◌, ◌*◌, ◌%◌, ◌^◌, ◌≤◌}
 use native.Mathlib.Nat.{one-mul, mod-eq_of_lt, lt_of_le_of_lt}
@@ -32,8 +33,9 @@ returns-then-exponent-w c =
 pub returns-then-exponent-lt2048 : goal.returns-then-exponent-lt2048
 returns-then-exponent-lt2048 c =
     let s = (goal.at.returns-then-exponent-lt2048 c).Start in
+    let n = no_nan c.args.x (sym c.is_nan.ensures.value ∙ c.if-is_nan.false) in
     ap (λ (n : ℕ). n - 1) (shifted c.args.w c.requires)
-    ∙ sym (most_part c.args.w c.requires c.args.x (held s) (no_nan c.args.x (sym c.is_nan.ensures.value ∙ c.if-is_nan.false)) c.if-exponent-w.false c.if-exponent-lt2048.true)
+    ∙ sym (most_part c.args.w c.requires c.args.x (held s) n c.if-exponent-w.false c.if-exponent-lt2048.true)
 
 pub returns-else-exponent-lt2048 : goal.returns-else-exponent-lt2048
 returns-else-exponent-lt2048 c =

@@ -37,7 +37,10 @@ loop-i-preserved c =
     let f = value_step iq jz in
     let e = step iq jz t (s.i - 1) s.q s.fw (omega arith) in
     let up : t + 1 ≡ jz + 1 - (s.i - 1) = omega arith in
-    let next = ap (λ (v : Valued). (ranged f (t + 1) (jz + 1) v).values) e ∙ sym (ap (λ (v : Valued). v.values) (ranged_step f t (jz + 1) (valued s.q s.fw) (omega arith))) ∙ s.invariant in
+    let next =
+    ap (λ (v : Valued). (ranged f (t + 1) (jz + 1) v).values) e
+    ∙ sym (ap (λ (v : Valued). v.values) (ranged_step f t (jz + 1) (valued s.q s.fw) (omega arith)))
+    ∙ s.invariant in
     rw up at next
 
 pub returns : goal.returns
