@@ -1,13 +1,12 @@
 -- A large angle as the kernel takes it: its three pieces of 24 bits, and its exponents.
-use mathlib.Core.Path.{◌≡◌, refl, sym, ap, ◌∙◌, subst}
+use mathlib.Core.Path.{◌≡◌, refl, sym, ap, subst}
 use mathlib.Core.Bool.{Bool, true, false, not, cond}
 use mathlib.Core.List.{List}
 use Prim.Native.Nat.{ℕ, zero, suc, ◌+◌, ◌-◌, ◌*◌, ◌/◌, ◌%◌, ◌^◌, ◌≤◌, ◌<◌}
 use native.Mathlib.Nat.{add-zero, mod-lt}
 use native.Mathlib.Omega.{arith}
-use borrow.Author.Tests.{lt-leb}
 use lib.Bits.{and_mask}
-use lib.Dec.{T, leb, ltb, ltb→lt, nltb→le, lit<, lit≤}
+use lib.Dec.{T, ltb, ltb→lt, nltb→le, lit<, lit≤}
 use lib.Pow.{pow_pos, pow_mono}
 use lib.IntN.{ℤ, pos, negsuc, ◌-ℤ◌}
 use lib.Signed.{◌≤ℤ◌}
@@ -15,7 +14,7 @@ use lib.ListN.{get_or}
 use lib.Ieee.{Float, nan, binary64, to_bits}
 use Rattle.std.proofs.lemmas.Int.{ints}
 use Rattle.loops.specs.Loop.{pick}
-use Rattle.number.specs.Operators.{◌⊖◌, ◌⊗◌, ◌==?◌, bits}
+use Rattle.number.specs.Operators.{◌⊖◌, ◌⊗◌, ◌==?◌}
 use Rattle.number.specs.Helpers.{positive_zero}
 use Rattle.number.specs.Words.{high_word, magnitude_bits}
 use Rattle.number.proofs.Fields.{normal_bits}

@@ -2,19 +2,19 @@
 use mathlib.Core.Path.{◌≡◌, refl, sym, ap, ◌∙◌, subst}
 use mathlib.Core.Logic.{◌⊎◌, inl, inr}
 use mathlib.Core.Bool.{Bool, true, false, cond, and-true}
-use Prim.Native.Nat.{ℕ, suc, ◌+◌, ◌-◌, ◌*◌, ◌/◌, ◌%◌, ◌^◌, ◌≤◌, ◌<◌, zero-le, min}
+use Prim.Native.Nat.{ℕ, ◌+◌, ◌-◌, ◌*◌, ◌/◌, ◌%◌, ◌^◌, ◌≤◌, ◌<◌, zero-le, min}
 use native.Mathlib.Nat.{le_trans, le_of_eq, eq-or-lt_of_le, lt_of_le_of_lt, mul-one, one-mul, zero-mul, mul_comm, mul_assoc}
 use native.Mathlib.Nat.{mul-pos, add-mul, mul-sub, mul-mul-mul_comm, mul-le-mul_right, eq_of_mul-eq-mul_right}
 use native.Mathlib.Nat.{min-eq_left, zero-add, mod-eq-sub-div-mul, div-mul-le_self}
 use native.Mathlib.Omega.{arith}
-use borrow.Author.Tests.{le-ltb, lt-leb, eqb-true}
-use lib.Dec.{leb, eqb, lit<, lit≤}
+use borrow.Author.Tests.{le-ltb, eqb-true}
+use lib.Dec.{eqb, lit<, lit≤}
 use lib.Pow.{pow_pos, pow-lt, le_ones}
 use lib.IntN.{negsuc}
 use lib.Ieee.{Float, nan, inf, fin, binary64, up, down, round, sum, eq, of_int, of_bits, to_unsigned, level}
 use lib.Ieee.Fits.{down_pos}
 use lib.Ieee.Scale.{round_same}
-use Rattle.number.specs.Operators.{◌⊕◌, ◌⊖◌, ◌⊗◌, ◌==?◌, bits}
+use Rattle.number.specs.Operators.{◌⊕◌, ◌⊖◌, ◌⊗◌, ◌==?◌}
 use Rattle.number.specs.Helpers.{positive_zero, one}
 use Rattle.number.specs.Units.{units_in_one}
 use Rattle.number.proofs.Powers.{pow_sum}

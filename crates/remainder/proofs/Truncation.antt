@@ -6,8 +6,8 @@ use native.Mathlib.Nat.{mul-div-mul_right, div-eq_of_lt, le-div_iff_mul-le, min-
 use native.Mathlib.Nat.{le_trans, le_of_eq, mul-le-mul_right, lt_of_lt_of_le, eq-or-lt_of_le, mod-lt}
 use native.Mathlib.Omega.{arith}
 use mathlib.Core.Bool.{Bool, true, false, not, cond}
-use lib.Dec.{T, leb, eqb, lit≤}
-use borrow.Author.Tests.{le-leb, lt-leb}
+use lib.Dec.{T, eqb, lit≤}
+use borrow.Author.Tests.{le-leb}
 use lib.Bits.{bit_and, and_mask}
 use lib.Pow.{pow_pos, pow_mono, shl_lt, shr_lt}
 use lib.Ieee.{Float, nan, inf, fin, binary64, up, down, odd, of_fields, to_bits, fits, is_nan, to_unsigned}
