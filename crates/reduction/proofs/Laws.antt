@@ -130,4 +130,4 @@ rem_under x f h = go (dec_le (high_word x) 0x413921fb)
         let ix = high_word x in
         let k = lt_of_not-le l in
         rw (lt-leb ix 0x3fe921fb (omega arith), le-ltb ix 0x4002d97c (omega arith), lt-leb ix 0x413921fb k, lt-leb 0x7ff00000 ix (omega arith))
-        (by_sign_under (sign_bit x) (large_of x) (large_under x f (omega arith) h))
+        (by_sign_under (sign_bit x) (large_of x) (large_under x (omega arith) h))

@@ -217,7 +217,7 @@ chopped iq h = record { digits = iq; held = h }
 abbrev pub chop_step : List ℕ → ℕ → ℕ → ℤ → Flow ℤ Held
 chop_step iq i t q0 = pick (eqb (get_or iq (i - t) 0) 0) (on (q0 -ℤ pos 24)) (out (record { jz = i - t; q0 = q0 }))
 
--- all digits are 0: the C would read what stands before iq. It never is so, since one from jk on is not 0 (`chop_stops`)
+-- all digits are 0: the C would read what stands before iq. It never is so: one from jk on is not 0 (`chop_stops`)
 abbrev pub chop_end : ℤ → Held
 chop_end q0 = record { jz = 0; q0 = q0 }
 
@@ -306,7 +306,7 @@ finish_of iq p q jz q0 =
 
 -- ---- the whole
 
--- where the C would leave its arrays: NaNs. No angle gets there (docs/DECISIONS.md)
+-- where the C would leave its arrays: NaNs. No angle gets there (`never_exhausted`)
 abbrev pub exhausted : Reduction
 exhausted = record { quadrant = 0; y0 = nan; y1 = nan }
 
