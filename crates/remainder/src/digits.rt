@@ -1,12 +1,13 @@
 //! The digits of the angle times 2/pi: k_rem_pio2.c up to the check whether recomputation is needed.
 
 ghost use Rattle.std.specs.Prelude.{◌≡◌, ◌≤◌, ◌<◌, ◌+◌, ◌-◌, ◌/◌, ◌^◌, ◌≤ℤ◌, pos, negsuc};
-ghost use Rattle.remainder.specs.Kernel.{first_digits, first_terms, term_of, terms, more_of, distilled, distill_of, trimmed_of, cut_of, Cut};
+ghost use Rattle.remainder.specs.Kernel.{first_digits, first_terms, term_of, terms, more_of, distilled, distill_of, trimmed_of, cut_of};
 ghost use Rattle.remainder.specs.Kernel.{complemented, opposite_of, carried_of, complement_of, masked_of, flipped_of, passed, turned_of, pass_of};
 ghost use Rattle.remainder.specs.Kernel.{joined_of, needed_of};
 
 use crate::machine::{floor, int, scalbn};
 use crate::table;
+use crate::table::JK;
 
 pub(crate) const TWO24: f64 = 1.67772160000000000000e+07;
 
@@ -25,7 +26,7 @@ pub(crate) fn first_digits(f: &mut [f64; 20], jv: usize, jx: usize)
     requires { (jv ≤ 41) × (jx ≤ 2) }
     ensures { f.new ≡ first_digits jv jx f.old }
 {
-    for i in 0..jx + 5 {
+    for i in 0..jx + JK + 1 {
         f[i] = if jv + i < jx {
             0.0
         } else {
@@ -51,7 +52,7 @@ pub(crate) fn first_terms(q: &mut [f64; 21], x: &[f64; 3], f: &[f64; 20], jx: us
     requires { jx ≤ 2 }
     ensures { q.new ≡ first_terms x.now f.now jx q.old }
 {
-    for i in 0..5 {
+    for i in 0..JK + 1 {
         q[i] = term(x, f, jx, i);
     }
 }
@@ -237,7 +238,7 @@ pub(crate) fn joined(iq: &[u32; 21], jz: usize) -> u32
     ensures { result ≡ joined_of iq.now jz }
 {
     let mut j = 0;
-    for i in (4..jz).rev() {
+    for i in (JK..jz).rev() {
         j |= iq[i];
     }
     j
@@ -247,8 +248,8 @@ pub(crate) fn joined(iq: &[u32; 21], jz: usize) -> u32
 pub(crate) fn needed(iq: &[u32; 21]) -> Option<usize>
     ensures { result ≡ needed_of iq.now }
 {
-    for k in 1..5 {
-        if iq[4 - k] != 0 {
+    for k in 1..JK + 1 {
+        if iq[JK - k] != 0 {
             return Some(k);
         }
     }

@@ -51,7 +51,7 @@ fn kernel(x: &[f64; 3], jx: usize, jv: usize, q0: i32) -> Reduction
     let mut q = [0.0; 21];
     digits::first_digits(&mut f, jv, jx);
     digits::first_terms(&mut q, x, &f, jx);
-    let mut jz = 4;
+    let mut jz = table::JK;
     for _ in 0..16usize {
         let mut iq = [0; 21];
         let at = digits::one_pass(&mut iq, &q, jz, q0);

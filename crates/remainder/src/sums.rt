@@ -6,6 +6,7 @@ ghost use Rattle.remainder.specs.Kernel.{part_of, parts_of, down_of, up_of, by_h
 
 use crate::digits::{Pass, TWO24, TWON24};
 use crate::machine::{int, scalbn};
+use crate::table::JK;
 use crate::{Reduction, table};
 
 // jz and q0 of k_rem_pio2.c.
@@ -81,7 +82,7 @@ fn part(q: &[f64; 21], jz: usize, t: usize) -> f64
     requires { (jz ≤ 20) × (t ≤ jz) }
     ensures { result ≡ part_of q.now jz t }
 {
-    let last = if t < 4 { t } else { 4 };
+    let last = if t < JK { t } else { JK };
     let mut fw = 0.0;
     for k in 0..last + 1 {
         fw += table::pio2(k) * q[jz - t + k];

@@ -5,6 +5,9 @@ ghost use Rattle.std.specs.Float.{nan};
 ghost use Rattle.remainder.specs.Machine.{double};
 ghost use Rattle.remainder.specs.Tables.{two_over_pi, pio2};
 
+// init_jk[2]: 2 is the C's prec for 53 bits. jp is jk.
+pub(crate) const JK: usize = 4;
+
 // 2/pi in digits of 24 bits, two_over_pi of e_rem_pio2.c.
 static TWO_OVER_PI: [u32; 66] = [
     0xa2_f983, 0x6e_4e44, 0x15_29fc, 0x27_57d1, 0xf5_34dd, 0xc0_db62, 0x95_993c, 0x43_9041,
