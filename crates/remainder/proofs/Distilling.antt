@@ -52,7 +52,7 @@ module _ (z : Float) (Z : ℕ) (p : Of z Z 0) (h : Z < 2 ^ 51) where
 -- ---- the loop
 
 -- after i iterations: i digits, the rest z, and the terms before it
-record After (Q : ℕ → ℕ) (jz : ℕ) (iq : List ℕ) (i : ℕ) (s : Distilled) : Type 0 where
+pub record After (Q : ℕ → ℕ) (jz : ℕ) (iq : List ℕ) (i : ℕ) (s : Distilled) : Type 0 where
   pub rest : ℕ
   pub is : Of s.z rest 0
   pub under : rest < 2 ^ 51
@@ -60,14 +60,13 @@ record After (Q : ℕ → ℕ) (jz : ℕ) (iq : List ℕ) (i : ℕ) (s : Distill
   pub kept : length s.digits ≡ length iq
   pub exact : value_of s.digits i + rest * 2 ^ (24 * i) + sum_of_terms Q (jz - i) * 2 ^ (24 * (i + 1)) ≡ sum_of_terms Q (suc jz)
 
--- what is left at the end
-pub record Whole (Q : ℕ → ℕ) (jz : ℕ) (iq : List ℕ) (s : Distilled) : Type 0 where
-  pub rest : ℕ
-  pub is : Of s.z rest 0
-  pub under : rest < 2 ^ 51
-  pub small : Digits s.digits jz
-  pub kept : length s.digits ≡ length iq
-  pub exact : value_of s.digits jz + rest * 2 ^ (24 * jz) ≡ sum_of_terms Q (suc jz)
+-- at the end no terms are left
+pub whole_is : (Q : ℕ → ℕ) (jz : ℕ) (iq : List ℕ) (s : Distilled) (a : After Q jz iq jz s)
+    → value_of s.digits jz + a.rest * 2 ^ (24 * jz) ≡ sum_of_terms Q (suc jz)
+whole_is Q jz iq s a =
+    let e = ap (λ (i : ℕ). sum_of_terms Q i * 2 ^ (24 * (jz + 1))) (sub_self jz) in
+    let h = a.exact in
+    omega (arith, e, h)
 
 module _ (q : List Float) (Q : ℕ → ℕ) (jz : ℕ) (iq : List ℕ) (are : (i : ℕ) → i ≤ jz → Of (get_or q i nan) (Q i) 0)
     (few : (i : ℕ) → i ≤ jz → Q i < 2 ^ 50) (room : jz ≤ length iq) where
@@ -99,29 +98,13 @@ module _ (q : List Float) (Q : ℕ → ℕ) (jz : ℕ) (iq : List ℕ) (are : (i
       sum_under : (k Z : ℕ) → k < 2 ^ 50 → Z < 2 ^ 51 → (k + Z / 2 ^ 24 ≤ 2 ^ 53) × (k + Z / 2 ^ 24 < 2 ^ 51)
       sum_under k Z h l = (omega arith, omega arith)
 
-  pub distill_is : Whole Q jz iq (distill_of q jz iq)
+  pub distill_is : After Q jz iq jz (distill_of q jz iq)
   unfolding distill_of
-  distill_is =
-      let a = ranged_keeps_at (distill_step q jz) (After Q jz iq) 0 jz step zero-le (distilled iq (get_or q jz nan)) start in
-      record {
-        rest = a.rest;
-        is = a.is;
-        under = a.under;
-        small = a.small;
-        kept = a.kept;
-        exact = end (value_of (distill_of q jz iq).digits jz) a.rest jz a.exact;
-      }
-    where
-      start : After Q jz iq 0 (distilled iq (get_or q jz nan))
-      start = record {
-        rest = Q jz;
-        is = are jz (omega arith);
-        under = (let e = few jz (omega arith) in omega (arith, e));
-        small = λ i h. absurd (omega arith);
-        kept = refl;
-        exact = let e = ap (sum_of_terms Q) (sub-zero jz) in omega (arith, e);
-      }
-
-      end : (v z n : ℕ) → v + z * 2 ^ (24 * n) + sum_of_terms Q (n - n) * 2 ^ (24 * (n + 1)) ≡ sum_of_terms Q (suc n)
-          → v + z * 2 ^ (24 * n) ≡ sum_of_terms Q (suc n)
-      end v z n h = let e = ap (λ (i : ℕ). sum_of_terms Q i * 2 ^ (24 * (n + 1))) (sub_self n) in omega (arith, e, h)
+  distill_is = ranged_keeps_at (distill_step q jz) (After Q jz iq) 0 jz step zero-le (distilled iq (get_or q jz nan)) (record {
+    rest = Q jz;
+    is = are jz (omega arith);
+    under = (let e = few jz (omega arith) in omega (arith, e));
+    small = λ i h. absurd (omega arith);
+    kept = refl;
+    exact = let e = ap (sum_of_terms Q) (sub-zero jz) in omega (arith, e);
+  })

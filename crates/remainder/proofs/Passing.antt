@@ -32,7 +32,7 @@ use Rattle.remainder.proofs.Entries.{entries_set}
 use Rattle.remainder.proofs.Exactly.{Of, double_of, minus_of, times_of, whole_over, scalbn_of, whole_of, fraction_of, told_zero}
 use Rattle.remainder.proofs.Exactly.{eight_of, eighth_of, one_of}
 use Rattle.remainder.proofs.Weighing.{Digits, value_of, value_more, value_set, value_below, sum_of_terms}
-use Rattle.remainder.proofs.Distilling.{distill_is}
+use Rattle.remainder.proofs.Distilling.{whole_is, distill_is}
 
 -- the weight of one
 abbrev pub weight_of_one : ℕ → ℤ → ℕ
@@ -348,15 +348,17 @@ module _ (q : List Float) (Q : ℕ → ℕ) (jz : ℕ) (iq : List ℕ) (are : (i
   pass_is (pos a) l h =
       let d = distill_is q Q jz iq are few room in
       let s = distill_of q jz iq in
+      let w = whole_is Q jz iq s d in
       let n = int (trimmed_of s.z (pos a)) in
       let z = rest_of s.z (pos a) in
       let few : a ≤ 2 = omega (arith, ints, h) in
       let c = cut_is s.digits jz some (let e = d.kept in omega (arith, e)) d.small n z a few in
       turned_up (sum_of_terms Q (suc jz)) jz some iq room z a few (cut_of s.digits n z jz (pos a)) (c.kept ∙ d.kept) c.small
-      (c.exact ∙ same_mod (value_of s.digits jz) d.rest (sum_of_terms Q (suc jz)) a jz some few d.exact)
+      (c.exact ∙ same_mod (value_of s.digits jz) d.rest (sum_of_terms Q (suc jz)) a jz some few w)
   pass_is (negsuc b) l h =
       let d = distill_is q Q jz iq are few room in
       let s = distill_of q jz iq in
+      let w = whole_is Q jz iq s d in
       let few : b ≤ 26 = omega (arith, ints, l) in
       turned_down (sum_of_terms Q (suc jz)) jz some iq room (rest_of s.z (negsuc b)) d.rest b few s.digits d.kept d.small
-      (rest_is s.z d.rest d.is d.under b few) d.exact (int (trimmed_of s.z (negsuc b)))
+      (rest_is s.z d.rest d.is d.under b few) w (int (trimmed_of s.z (negsuc b)))
