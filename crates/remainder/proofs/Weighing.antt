@@ -110,7 +110,8 @@ module _ (iq : List ℕ) (j : ℕ) (d : Digits iq 4) where
   abbrev Left : ℕ → Unit {0} → Type 0
   Left k s = (1 ≤ k) × (2 ^ (24 * j) ≤ value_of iq (5 - k))
 
-  abbrev Needed : Option ℕ → Type 0
+  -- a digit is found, the k-th from the last on, and j are before it
+  abbrev pub Needed : Option ℕ → Type 0
   Needed r = (k : ℕ) × (r ≡ Some k) × (1 ≤ k) × (k + j ≤ 4)
 
   look : (k : ℕ) (s : Unit {0}) → k < 5 → Left k s → Kept (Left (k + 1)) Needed (needed_step iq k s)
