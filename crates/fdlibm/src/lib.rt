@@ -2,7 +2,8 @@
 //! equals the definition of `specs/` that is written from the C function of its name.
 #![tactic(auto)]
 
-ghost use Rattle.std.specs.Prelude.{◌≡◌};
+ghost use Rattle.std.specs.Prelude.{◌≡◌, ◌<◌};
+ghost use Rattle.number.specs.Words.{high_word};
 ghost use Rattle.fdlibm.specs.Sine.{sin_of, cos_of, sin_at, cos_at};
 
 use remainder::Reduction;
@@ -17,6 +18,7 @@ struct SinCos {
 }
 
 // Both of a reduced angle, by its quadrant.
+#[inline(always)]
 fn both_at(a: Reduction) -> SinCos
     ensures { (result.sin ≡ sin_at a) × (result.cos ≡ cos_at a) }
 {
@@ -38,6 +40,18 @@ fn both_at(a: Reduction) -> SinCos
     }
 }
 
+// Both of a finite angle above the medium range.
+// Kept (5): out of line, so that the call of the kernel of the reduction takes no time of the other angles: a check was 2.6% slower with it in
+// `both`, a trace 1.5% (docs/SPEED.md, "With today's kit").
+#[cold]
+#[inline(never)]
+fn both_large(x: f64) -> SinCos
+    requires { (0x413921fb < high_word x) × (high_word x < 0x7ff00000) }
+    ensures { (result.sin ≡ sin_of x) × (result.cos ≡ cos_of x) }
+{
+    both_at(reduction::rem_pio2_large(x))
+}
+
 // The sine and the cosine by one reduction; NaNs for an angle that is infinite or a NaN.
 fn both(x: f64) -> SinCos
     ensures { (result.sin ≡ sin_of x) × (result.cos ≡ cos_of x) }
@@ -51,6 +65,9 @@ fn both(x: f64) -> SinCos
             sin: x - x,
             cos: x - x,
         };
+    }
+    if 0x4139_21fb < ix {
+        return both_large(x);
     }
     both_at(reduction::rem_pio2(x))
 }
