@@ -1,3 +1,4 @@
+use native.Mathlib.Omega.{arith}
 use borrow.Author.Tests.{le-leb, lt-leb}
 use Rattle.fdlibm.specs.Sine.{sin_of, cos_of}
 use Rattle.fdlibm.proofs.both.Goals as goal
@@ -15,6 +16,9 @@ returns-then-ix-ge2146435072 c = (
   rw (← c.high_word-ix.ensures, lt-leb _ _ c.if-ix-le1072243195.false, le-leb _ _ c.if-ix-ge2146435072.true),
   rw (← c.high_word-ix.ensures, lt-leb _ _ c.if-ix-le1072243195.false, le-leb _ _ c.if-ix-ge2146435072.true),
 )
+
+pub both_large-requires : goal.both_large-requires
+both_large-requires c = (omega (arith, c.high_word-ix.ensures), omega (arith, c.high_word-ix.ensures))
 
 pub returns : goal.returns
 unfolding sin_of cos_of
