@@ -50,7 +50,7 @@ def functions(archive):
             if moved[1] in ("R_X86_64_32", "R_X86_64_32S", "R_X86_64_64"):
                 odd.append(f"{name}: a fixed address, {moved[1]}")
             if re.match(r"(call|j)", last):
-                calls[name].add(moved[2].removeprefix(".text."))
+                calls[name].add(re.sub(r"^\.text\.(unlikely\.)?", "", moved[2]))
         elif code:
             last, rest = code[1], code[2]
             if last.startswith("push"):
