@@ -2,8 +2,8 @@
 //! equals the definition of `specs/` that is written from the C function of its name.
 #![tactic(auto)]
 
-ghost use Rattle.std.specs.Prelude.{◌≡◌, ◌<◌};
-ghost use Rattle.number.specs.Words.{high_word};
+ghost use Rattle.std.specs.Prelude.{◌≡◌};
+ghost use Rattle.reduction.specs.Reduction.{rem_pio2};
 ghost use Rattle.fdlibm.specs.Sine.{sin_of, cos_of, sin_at, cos_at};
 
 use remainder::Reduction;
@@ -40,16 +40,15 @@ fn both_at(a: Reduction) -> SinCos
     }
 }
 
-// Both of a finite angle above the medium range.
-// Kept (5): out of line, so that the call of the kernel of the reduction takes no time of the other angles: a check was 2.6% slower with it in
-// `both`, a trace 1.5% (docs/SPEED.md, "With today's kit").
+// Both of an angle by its reduction, which is a large one's.
+// Kept (5): out of line, so that the call of the reduction's kernel takes no time of the other angles: with it in `both` a check took 2.6%
+// longer, and a trace 1.5% (docs/SPEED.md, "With today's kit").
 #[cold]
 #[inline(never)]
 fn both_large(x: f64) -> SinCos
-    requires { (0x413921fb < high_word x) × (high_word x < 0x7ff00000) }
-    ensures { (result.sin ≡ sin_of x) × (result.cos ≡ cos_of x) }
+    ensures { (result.sin ≡ sin_at (rem_pio2 x)) × (result.cos ≡ cos_at (rem_pio2 x)) }
 {
-    both_at(reduction::rem_pio2_large(x))
+    both_at(reduction::rem_pio2(x))
 }
 
 // The sine and the cosine by one reduction; NaNs for an angle that is infinite or a NaN.

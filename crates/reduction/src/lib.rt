@@ -5,7 +5,6 @@
 ghost use Rattle.std.specs.Prelude.{◌≡◌, ◌<◌, get_or};
 ghost use Rattle.reduction.specs.Reduction.{npio2hw, rem_pio2, taken_of, medium_of, negated_of, by_sign};
 ghost use Rattle.number.specs.Operators.{◌⊖◌, ◌⊗◌};
-ghost use Rattle.number.specs.Words.{high_word};
 ghost use Rattle.reduction.specs.Reduction.{next_difference, careful_of, refined_of};
 ghost use Rattle.reduction.specs.Near.{near_of};
 
@@ -144,15 +143,9 @@ fn by_sign(sign: u64, a: Reduction) -> Reduction
     if sign == 0 { a } else { negated(a) }
 }
 
-// The same as `rem_pio2` for a finite angle above the medium range.
-pub fn rem_pio2_large(x: f64) -> Reduction
-    requires { (0x413921fb < high_word x) × (high_word x < 0x7ff00000) }
-    ensures { result ≡ rem_pio2 x }
-{
-    by_sign(number::sign_bit(x), remainder::large(x))
-}
-
 // An angle x less a multiple of pi/2: at most about pi/4 is left.
+// Kept (5): inlined in both of its callers, each of which knows which branches it needs.
+#[inline(always)]
 pub fn rem_pio2(x: f64) -> Reduction
     ensures { result ≡ rem_pio2 x }
 {
@@ -179,6 +172,6 @@ pub fn rem_pio2(x: f64) -> Reduction
             y1: x - x,
         }
     } else {
-        rem_pio2_large(x)
+        by_sign(sign, remainder::large(x))
     }
 }

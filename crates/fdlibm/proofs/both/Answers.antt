@@ -1,4 +1,3 @@
-use native.Mathlib.Omega.{arith}
 use borrow.Author.Tests.{le-leb, lt-leb}
 use Rattle.fdlibm.specs.Sine.{sin_of, cos_of}
 use Rattle.fdlibm.proofs.both.Goals as goal
@@ -17,8 +16,13 @@ returns-then-ix-ge2146435072 c = (
   rw (← c.high_word-ix.ensures, lt-leb _ _ c.if-ix-le1072243195.false, le-leb _ _ c.if-ix-ge2146435072.true),
 )
 
-pub both_large-requires : goal.both_large-requires
-both_large-requires c = (omega (arith, c.high_word-ix.ensures), omega (arith, c.high_word-ix.ensures))
+pub returns-then-ix-gt1094263291 : goal.returns-then-ix-gt1094263291
+unfolding sin_of cos_of
+returns-then-ix-gt1094263291 c =
+    let w = c.high_word-ix.ensures in (
+      rw (c.both_large.ensures.0, ← w, lt-leb _ _ c.if-ix-le1072243195.false, lt-leb _ _ c.if-ix-ge2146435072.false),
+      rw (c.both_large.ensures.1, ← w, lt-leb _ _ c.if-ix-le1072243195.false, lt-leb _ _ c.if-ix-ge2146435072.false),
+    )
 
 pub returns : goal.returns
 unfolding sin_of cos_of

@@ -38,4 +38,8 @@ returns-then-ix-ge2146435072 c =
     (pick_left _ (lt-leb _ _ c.if-ix-le1094263291.false) (pick_taken _ (le-leb _ _ c.if-ix-ge2146435072.true) refl))))
 
 pub returns-else-ix-ge2146435072 : goal.returns-else-ix-ge2146435072
-returns-else-ix-ge2146435072 c = c.rem_pio2_large.ensures
+unfolding rem_pio2
+returns-else-ix-ge2146435072 c =
+    rw (c.by_sign-else-ix-ge2146435072.ensures, c.large.ensures, ← c.sign_bit-sign.ensures, ← c.high_word-ix.ensures)
+    (pick_left _ (lt-leb _ _ c.if-ix-le1072243195.false) (pick_left _ (le-ltb _ _ c.if-ix-lt1073928572.false)
+    (pick_left _ (lt-leb _ _ c.if-ix-le1094263291.false) (pick_left _ (lt-leb _ _ c.if-ix-ge2146435072.false) refl))))
