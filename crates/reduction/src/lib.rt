@@ -116,6 +116,8 @@ fn refined(d: Difference, whole: u64, n: f64, ix: u64) -> Difference
 }
 
 // A positive angle t in the medium range, of high word ix.
+// Kept (5): inlined, as `rem_pio2` is.
+#[inline(always)]
 fn medium(t: f64, ix: u64) -> Reduction
     ensures { result ≡ medium_of t ix }
 {
