@@ -2,8 +2,8 @@
 //! equals the definition of `specs/` that is written from the C function of its name.
 #![tactic(auto)]
 
-ghost use Rattle.std.specs.Prelude.{◌≡◌};
-ghost use Rattle.reduction.specs.Reduction.{rem_pio2};
+ghost use Rattle.std.specs.Prelude.{◌≡◌, ◌<◌};
+ghost use Rattle.number.specs.Words.{high_word};
 ghost use Rattle.fdlibm.specs.Sine.{sin_of, cos_of, sin_at, cos_at};
 
 use remainder::Reduction;
@@ -40,18 +40,25 @@ fn both_at(a: Reduction) -> SinCos
     }
 }
 
-// Both of an angle by its reduction, which is a large one's.
-// Kept (5): out of line, so that the call of the reduction's kernel takes no time of the other angles: with it in `both` a check took 2.6%
-// longer, and a trace 1.5% (docs/SPEED.md, "With today's kit").
+// Both of an angle above the medium range; NaNs for one that is infinite or a NaN.
+// Kept (5): out of line, so that neither its test nor the call of the reduction's kernel takes time of the other angles: with it in `both` a
+// check took 2.6% longer, and a trace 1.5% (docs/SPEED.md, "With today's kit").
 #[cold]
 #[inline(never)]
 fn both_large(x: f64) -> SinCos
-    ensures { (result.sin ≡ sin_at (rem_pio2 x)) × (result.cos ≡ cos_at (rem_pio2 x)) }
+    requires { 0x413921fb < high_word x }
+    ensures { (result.sin ≡ sin_of x) × (result.cos ≡ cos_of x) }
 {
+    if 0x7ff0_0000 <= number::high_word(x) {
+        return SinCos {
+            sin: x - x,
+            cos: x - x,
+        };
+    }
     both_at(reduction::rem_pio2(x))
 }
 
-// The sine and the cosine by one reduction; NaNs for an angle that is infinite or a NaN.
+// The sine and the cosine by one reduction.
 fn both(x: f64) -> SinCos
     ensures { (result.sin ≡ sin_of x) × (result.cos ≡ cos_of x) }
 {
@@ -59,16 +66,10 @@ fn both(x: f64) -> SinCos
     if ix <= 0x3fe9_21fb {
         return kernel::kernels(x, 0.0, false);
     }
-    if 0x7ff0_0000 <= ix {
-        return SinCos {
-            sin: x - x,
-            cos: x - x,
-        };
+    if ix <= 0x4139_21fb {
+        return both_at(reduction::rem_pio2(x));
     }
-    if 0x4139_21fb < ix {
-        return both_large(x);
-    }
-    both_at(reduction::rem_pio2(x))
+    both_large(x)
 }
 
 // The sine, with the cosine put into `cos`.
