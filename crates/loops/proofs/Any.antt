@@ -49,7 +49,7 @@ any_at test a b i = go (b - a) a refl
         let apart : (a ≡ i → ⊥) = λ q. (let z : ◌≡◌ {A = ℕ} 0 1 = cc in omega arith) in
         sym (any_again test a b (omega arith) t refl) ∙ go k (a + 1) (omega arith) (omega arith) l y)
 
-unlike : {t : Bool} → t ≡ true → t ≡ false → ⊥
+pub unlike : {t : Bool} → t ≡ true → t ≡ false → ⊥
 unlike p q = let z : ◌≡◌ {A = ℕ} 0 1 = cc in omega arith
 
 -- it says no exactly when the test fails all along

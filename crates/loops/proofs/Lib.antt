@@ -1,4 +1,5 @@
 pub mod Choice
 pub mod Loop
 pub mod Any
+pub mod First
 pub mod Over

@@ -1,3 +1,4 @@
 pub mod Loop
 pub mod Any
+pub mod First
 pub mod Over
