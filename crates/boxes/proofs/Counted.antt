@@ -13,7 +13,6 @@ use Rattle.loops.specs.Loop.{pick}
 use Rattle.loops.proofs.Any.{any_found, any_at, any_none, any_fails}
 use Rattle.groups.specs.Groups.{width, count_fits, from_group, holds_of}
 use Rattle.groups.proofs.Groups.{holds_length, count_fits_lem, fits_count}
-use Rattle.groups.proofs.Rows.{point_from_lem}
 use Rattle.geometry.specs.Tolerance.{tolerance_fit}
 use Rattle.geometry.specs.declared.tolerance.Tolerance.{Tolerance}
 use Rattle.refusal.specs.declared.Refusal.TheVariants as refusal
@@ -26,17 +25,12 @@ use Rattle.boxes.specs.Crosses.{segment_meets, some_segment, run_crosses, run_le
 use Rattle.boxes.specs.Crossing.{Crossed}
 use Rattle.boxes.specs.Crossing.{box_fit, unfit_at, some_unfit, refusal_of, crossed_of, crossing_tests, crossing_fitness, answer_of, crossing_of}
 use Rattle.boxes.specs.Counts.{run_bounds, Counts, Fit}
+use Rattle.boxes.proofs.Listed.{segment_part}
 
 -- a test that keeps out: what passes it
 past : (t : Bool) {u : Bool} → pick t false u ≡ true → (t ≡ false) × (u ≡ true)
 past true e = let z : ◌≡◌ {A = ℕ} 0 1 = cc in absurd (omega arith)
 past false e = (refl, e)
-
--- segment k of a part is segment f + k of the trace
-segment_part : (l : List Float) (g : Aabb) (f k : ℕ) → segment_meets (from_group width f l) g k ≡ segment_meets l g (f + k)
-segment_part l g f k =
-    let e : f + (k + 1) ≡ f + k + 1 = omega arith in
-    rw (point_from_lem l f k, point_from_lem l f (k + 1), e)
 
 -- the segments of a run: those below 16 that the trace has
 run_below : (count first k : ℕ) → k < run_points count first - 1 → (k < run_length) × (first + k + 1 < count)
@@ -120,7 +114,7 @@ module _ (tol : Tolerance) (l : List Float) (count : ℕ) (b : Aabb) where
         corners = asked_held (box_fit b) refusal.BoxNumber s.1.1.1.1.0;
       }
 
-  fit_tests : Fit tol l count b → crossing_fitness tol l count b ≡ Ok tt
+  pub fit_tests : Fit tol l count b → crossing_fitness tol l count b ≡ Ok tt
   unfolding crossing_fitness some_unfit holds_of
   fit_tests f =
       let n = any_none (unfit_at l) 0 count (λ i z h. ap not (f.coordinates i h)) in

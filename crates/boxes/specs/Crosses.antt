@@ -1,7 +1,8 @@
 -- `crosses` of marching.rs for one trace. Definitions only.
-use Rattle.std.specs.Prelude.{Bool, false, List, ℕ, ◌+◌, ◌-◌, ◌*◌, ◌/◌, ltb, Float}
+use Rattle.std.specs.Prelude.{Bool, false, List, ℕ, ◌+◌, ◌-◌, ◌*◌, ◌/◌, ltb, take, Float, Option}
 use Rattle.loops.specs.Loop.{pick}
 use Rattle.loops.specs.Any.{any_in}
+use Rattle.loops.specs.First.{first_in}
 use Rattle.number.specs.Operators.{bits, ◌⊕◌, ◌⊖◌, ◌⊗◌}
 use Rattle.groups.specs.Groups.{width, from_group}
 use Rattle.groups.specs.Row.{point_at}
@@ -26,6 +27,10 @@ grown_of b confusion = record {
 abbrev pub segment_meets : List Float → Aabb → ℕ → Bool
 segment_meets l b i = segment_meets_box (point_at l i) (point_at l (i + 1)) b
 
+-- the first segment of the points that meets the box
+unfoldable pub first_segment : List Float → ℕ → Aabb → Option ℕ
+first_segment l count b = first_in (segment_meets l b) 0 (count - 1)
+
 -- whether some segment of the points meets the box
 unfoldable pub some_segment : List Float → ℕ → Aabb → Bool
 some_segment l count b = any_in (segment_meets l b) 0 (count - 1)
@@ -49,6 +54,10 @@ runs_of count = (count - 1 + (run_length - 1)) / run_length
 -- the points of the run from point `first` on: one more than its segments, or what is left
 abbrev pub run_points : ℕ → ℕ → ℕ
 run_points count first = pick (ltb (run_length + 1) (count - first)) (run_length + 1) (count - first)
+
+-- the numbers of the run from point `first` on, of a trace that ends with the list
+unfoldable pub run_from : List Float → ℕ → List Float
+run_from l first = take (width * (run_length + 1)) (from_group width first l)
 
 -- "each run is handed on as a part of the trace from its first point"
 abbrev pub run_at : List Float → ℕ → Aabb → ℕ → Bool

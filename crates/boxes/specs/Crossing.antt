@@ -35,9 +35,9 @@ some_unfit l count = any_in (unfit_at l) 0 count
 abbrev pub Crossed : Type 0
 Crossed = Result Bool Refusal
 
--- the paper's number for each case (0: not refused)
-abbrev pub refusal_of : Crossed → ℕ
-refusal_of (Ok crosses) = 0
+-- the paper's number for each case (0: not refused), of whatever answer
+abbrev pub refusal_of : {A : Type 0} → Result A Refusal → ℕ
+refusal_of (Ok answer) = 0
 refusal_of (Err r) = number_of r
 
 -- whether the trace is crossed
@@ -59,10 +59,10 @@ crossing_tests tol l count b =
 unfoldable pub crossing_fitness : Tolerance → List Float → ℕ → Aabb → Verdict
 crossing_fitness tol l count b = first_refusal (crossing_tests tol l count b)
 
--- where the tests pass, whether the trace crosses
-abbrev pub answer_of : Verdict → Bool → Crossed
-answer_of (Err r) crosses = Err r
-answer_of (Ok u) crosses = Ok crosses
+-- where the tests pass, the answer
+abbrev pub answer_of : {A : Type 0} → Verdict → A → Result A Refusal
+answer_of (Err r) answer = Err r
+answer_of (Ok u) answer = Ok answer
 
 -- the public crossing
 unfoldable pub crossing_of : Tolerance → List Float → ℕ → Aabb → Crossed

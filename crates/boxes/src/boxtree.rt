@@ -1,5 +1,6 @@
 ghost use Rattle.std.specs.Prelude.{◌≡◌};
 ghost use Rattle.boxes.specs.Bounds.{apart_on, boxes_apart};
+ghost use Rattle.boxes.specs.Explain.{first_apart};
 
 use geometry::Point3D;
 
@@ -24,4 +25,20 @@ pub fn boxes_apart(a: Aabb, b: Aabb) -> bool
     apart_on(a.low.x, a.high.x, b.low.x, b.high.x)
         || (apart_on(a.low.y, a.high.y, b.low.y, b.high.y)
             || apart_on(a.low.z, a.high.z, b.low.z, b.high.z))
+}
+
+// The first axis on which the boxes are apart: 0, 1, 2 for x, y, z.
+pub(crate) fn first_apart(a: Aabb, b: Aabb) -> Option<usize>
+    ensures { result ≡ first_apart a b }
+{
+    if apart_on(a.low.x, a.high.x, b.low.x, b.high.x) {
+        return Some(0);
+    }
+    if apart_on(a.low.y, a.high.y, b.low.y, b.high.y) {
+        return Some(1);
+    }
+    if apart_on(a.low.z, a.high.z, b.low.z, b.high.z) {
+        return Some(2);
+    }
+    None
 }

@@ -34,7 +34,12 @@ fn some_unfit(points: &[f64], count: usize) -> bool
 
 // Refusals 5, 8, 12 (count only), 18 and 17, in this order.
 // Kept (5, 6): the list, the caller's count and the box go one by one, as document 01 and C hand them over; 8 and 12 test the count here.
-fn crossing_fitness(tol: Tolerance, points: &[f64], count: usize, b: Aabb) -> Result<(), Refusal>
+pub(crate) fn crossing_fitness(
+    tol: Tolerance,
+    points: &[f64],
+    count: usize,
+    b: Aabb,
+) -> Result<(), Refusal>
     ensures { result ≡ crossing_fitness tol points.now count b }
 {
     asked(tol.is_fit(), Refusal::Tolerance)?;

@@ -1,7 +1,7 @@
 ghost use Rattle.std.specs.Prelude.{◌≡◌, ◌*◌, ◌/◌, ◌≤◌, ◌<◌, length};
 ghost use Rattle.groups.specs.Groups.{width};
 ghost use Rattle.boxes.specs.Segment.{clip_of, segment_meets_box};
-ghost use Rattle.boxes.specs.Crosses.{grown_of, some_segment, run_crosses, some_run, crosses_of};
+ghost use Rattle.boxes.specs.Crosses.{grown_of, first_segment, some_segment, run_crosses, run_from, some_run, crosses_of};
 
 use crate::boxtree::Aabb;
 use crate::{boxtree, pieces};
@@ -11,7 +11,7 @@ use groups::WIDTH;
 use groups::row::{point_from, rows};
 
 // Segments of a trace per box of a run.
-const RUN: usize = 16;
+pub(crate) const RUN: usize = 16;
 
 // The fractions of a segment that are inside the slabs looked at so far.
 #[derive(Clone, Copy)]
@@ -56,14 +56,23 @@ pub(crate) fn segment_meets_box(p: Point3D, q: Point3D, b: Aabb) -> bool
     clip(p.z, q.z - p.z, b.low.z, b.high.z, y).is_some()
 }
 
-// Whether some segment of the points meets the box.
-fn some_segment(points: &[f64], b: Aabb) -> bool
-    ensures { result ≡ some_segment points.now (length points.now / width) b }
+// The first segment of the points that meets the box.
+pub(crate) fn first_segment(points: &[f64], b: Aabb) -> Option<usize>
+    ensures { result ≡ first_segment points.now (length points.now / width) b }
 {
     let rows = rows(points);
     let starts = rows.iter().map(point_from);
     let ends = rows.iter().skip(1).map(point_from);
-    starts.zip(ends).any(|(p, q)| segment_meets_box(p, q, b))
+    starts
+        .zip(ends)
+        .position(|(p, q)| segment_meets_box(p, q, b))
+}
+
+// Whether some segment of the points meets the box.
+fn some_segment(points: &[f64], b: Aabb) -> bool
+    ensures { result ≡ some_segment points.now (length points.now / width) b }
+{
+    first_segment(points, b).is_some()
 }
 
 // One run, from its first point on: no segment is looked at where its box is apart.
@@ -78,7 +87,16 @@ fn run_crosses(points: &[f64], b: Aabb) -> bool
     some_segment(points, b)
 }
 
-// Each run is handed on as the part of the trace from its first point: 17 points of it, or what is left.
+// A run, handed on as the part of the trace from its first point: 17 points of it, or what is left.
+pub(crate) fn run_from(points: &[f64], first: usize) -> &[f64]
+    requires { width * first ≤ length points.now }
+    ensures { result.now ≡ run_from points.now first }
+{
+    let part = &points[WIDTH * first..];
+    &part[..part.len().min(WIDTH * (RUN + 1))]
+}
+
+// Whether some run crosses the box.
 // Kept (3): a run ends where the next one begins, so the runs are no chunks of the list; with `any` over their numbers (tried) a crossing
 // takes 5% longer.
 fn some_run(points: &[f64], b: Aabb) -> bool
@@ -86,9 +104,7 @@ fn some_run(points: &[f64], b: Aabb) -> bool
 {
     let segments = (points.len() / WIDTH).saturating_sub(1);
     for first in (0..segments).step_by(RUN) {
-        let part = &points[WIDTH * first..];
-        let run = &part[..part.len().min(WIDTH * (RUN + 1))];
-        if run_crosses(run, b) {
+        if run_crosses(run_from(points, first), b) {
             return true;
         }
     }
@@ -96,7 +112,7 @@ fn some_run(points: &[f64], b: Aabb) -> bool
 }
 
 // The box grown by the distance that a trace's chords may stray from the curve.
-fn grown(b: Aabb, confusion: f64) -> Aabb
+pub(crate) fn grown(b: Aabb, confusion: f64) -> Aabb
     ensures { result ≡ grown_of b confusion }
 {
     let gap = 8.0 * CHORD_DEVIATION * confusion;

@@ -1,6 +1,7 @@
 ghost use Rattle.trace_file.specs.Layout.{version1, width1};
-ghost use Rattle.passing.specs.Promises.{PointPromise, TracePromise, CheckPromise, CrossingPromise, WriteV1Promise, ReadPromise};
+ghost use Rattle.passing.specs.Promises.{PointPromise, TracePromise, CheckPromise, CrossingPromise, ExplainPromise, StretchPromise, WriteV1Promise, ReadPromise};
 
+use boxes::explain::Reason;
 use boxes::Aabb;
 use geometry::{Point3D, Tolerance};
 use groups::{Claim, Traced};
@@ -59,6 +60,24 @@ pub fn crossing(tol: Tolerance, points: &[f64], count: usize, b: Aabb) -> Result
     ensures { CrossingPromise tol points.now count b result }
 {
     boxes::crossing::crossing(tol, points, count, b)
+}
+
+// Why the trace crosses the box, or why not: the first of these that holds, the box grown as for `crossing`. `Segment`: the first segment
+// that counts, by its index in the trace from 0, and so exactly where `crossing` says yes. `WholeApart`: the box of the whole trace is
+// apart, on the axis x, y, z as 0, 1, 2 first. `RunsApart`: the boxes of all runs of 16 segments are apart. `NoneMet`: so many segments, 1
+// at least, lie in runs that are not apart, and none met the box. Refused as `crossing`, in its order. It writes nothing.
+pub fn explain(tol: Tolerance, points: &[f64], count: usize, b: Aabb) -> Result<Reason, Refusal>
+    ensures { ExplainPromise tol points.now count b result }
+{
+    boxes::explain::explain(tol, points, count, b)
+}
+
+// The stretch of the lent list that has the two points of the segment that `explain` names, itself and not a copy; an empty one where it
+// names none or refuses.
+pub fn stretch(tol: Tolerance, points: &[f64], count: usize, b: Aabb) -> &[f64]
+    ensures { StretchPromise tol points.now count b result.now }
+{
+    boxes::explain::stretch(tol, points, count, b)
 }
 
 // The trace that is claimed at the front of the list, written to the front of the lent bytes as a file of version 1, seven numbers a

@@ -5,11 +5,13 @@ use mathlib.Core.List.{List, [], ◌∷◌}
 use Prim.Native.Nat.{ℕ, zero, suc, ◌+◌, ◌-◌, ◌≤◌, ◌<◌}
 use native.Mathlib.Omega.{arith}
 use lib.ListN.{length, get_or}
-use Rattle.std.specs.List.{list_any, list_all, fold}
+use Rattle.std.specs.List.{list_any, list_all, fold, position_from}
 use Rattle.loops.specs.Loop.{ranged, Flow, on, out, exits, searched}
 use Rattle.loops.specs.Any.{any_in}
+use Rattle.loops.specs.First.{first_in}
 use Rattle.loops.proofs.Loop.{ranged_end, ranged_step}
 use Rattle.loops.proofs.Any.{cases, any_again, any_leave, any_done, any_found, any_at, any_none, any_fails}
+use Rattle.loops.proofs.First.{first_again, first_leave, first_done}
 
 -- `any` is the search for an index
 pub any_items : {A : Type 0} (test : A → Bool) (at : ℕ → Bool) (xs : List A) (k : ℕ) → ((i : ℕ) (d : A) → i < length xs → test (get_or xs i d) ≡ at (k + i))
@@ -22,6 +24,18 @@ any_items test at (x ∷ xs) k same =
     let end : k + 1 + length xs ≡ k + suc (length xs) = omega arith in
     cases (at k) (λ t. rw (here, t) (any_leave at k (k + suc (length xs)) (omega arith) t refl))
     (λ f. rw (here, f, rest, end) (any_again at k (k + suc (length xs)) (omega arith) f refl))
+
+-- `position` is the search for the first index
+pub position_items : {A : Type 0} (test : A → Bool) (at : ℕ → Bool) (xs : List A) (k : ℕ)
+    → ((i : ℕ) (d : A) → i < length xs → test (get_or xs i d) ≡ at (k + i)) → position_from test k xs ≡ first_in at k (k + length xs)
+position_items test at [] k same = first_done at k (k + 0) (omega arith)
+position_items test at (x ∷ xs) k same =
+    let here : test x ≡ at k = same 0 x (omega arith) ∙ ap at (let e : k + 0 ≡ k = omega arith in e) in
+    let rest : position_from test (k + 1) xs ≡ first_in at (k + 1) (k + 1 + length xs) =
+    position_items test at xs (k + 1) (λ i d h. same (suc i) d (omega arith) ∙ ap at (let e : k + suc i ≡ k + 1 + i = omega arith in e)) in
+    let end : k + 1 + length xs ≡ k + suc (length xs) = omega arith in
+    cases (at k) (λ t. rw (here, t) (first_leave at k (k + suc (length xs)) (omega arith) t))
+    (λ f. rw (here, f, rest, end) (first_again at k (k + suc (length xs)) (omega arith) f))
 
 -- two searches whose tests agree
 pub any_same : (p q : ℕ → Bool) (a b : ℕ) → ((i : ℕ) → a ≤ i → i < b → p i ≡ q i) → any_in p a b ≡ any_in q a b

@@ -1,11 +1,11 @@
 -- The laws of the numbers of one point.
 use mathlib.Core.Path.{◌≡◌, refl, sym, ap, ap₂, ◌∙◌}
-use mathlib.Core.List.{List, [], ◌∷◌, map}
+use mathlib.Core.List.{List, [], ◌∷◌, ◌++◌, map}
 use Prim.Native.Nat.{ℕ, zero, suc, ◌+◌, ◌-◌, ◌*◌, ◌/◌, ◌≤◌, ◌<◌}
 use native.Mathlib.Omega.{arith}
 use borrow.Author.Tests.{lt-ltb}
-use lib.ListN.{length, take, drop, get_or}
-use lib.Seq.{get_or-drop, get_or-take, drop-drop, take-take, length-take-le}
+use lib.ListN.{length, take, drop, get_or, length-drop}
+use lib.Seq.{get_or-drop, get_or-take, drop-drop, take-take, take-add, length-take-le, ext_get_or}
 use Rattle.std.proofs.lemmas.List.{length-map, get_or-map, drop-take}
 use lib.Ieee.{Float, nan}
 use Rattle.std.specs.Simd.{first_chunks}
@@ -54,6 +54,22 @@ row_group l i =
     let e : (j k : ℕ) → j < width → width * i + j ≡ k → get_or (take width (drop (width * i) l)) j nan ≡ get_or l k nan =
     λ j k h f. get_or-take width (drop (width * i) l) j nan h ∙ number_from l (width * i) j k f in
     rw (e 0 (width * i) (omega arith) (omega arith), e 1 _ (omega arith) refl, e 2 _ (omega arith) refl, e 3 _ (omega arith) refl, e 4 _ (omega arith) refl, e 5 _ (omega arith) refl, e 6 _ (omega arith) refl)
+
+-- and the part that holds point i has its numbers; the part that holds the next too has those of both
+pub row_part : (l : List Float) (i : ℕ) → width * (i + 1) ≤ length l → take width (from_group width i l) ≡ numbers_of (row_at l i)
+row_part l i h =
+    let left = length-drop (width * i) l in
+    let long : length (take width (from_group width i l)) ≡ width = length-take-le width (from_group width i l) (omega arith) in
+    ext_get_or nan (take width (from_group width i l)) (numbers_of (row_at l i)) long
+    (λ j k. get_or-take width (from_group width i l) j nan (omega arith) ∙ number_from l (width * i) j (width * i + j) refl ∙ sym (row_number l i j (omega arith)))
+
+pub rows_part : (l : List Float) (i : ℕ) → width * (i + 2) ≤ length l → take (width * 2) (from_group width i l) ≡ numbers_of (row_at l i) ++ numbers_of (row_at l (i + 1))
+rows_part l i h =
+    let two : width * 2 ≡ width + width = omega arith in
+    ap (λ (k : ℕ). take k (from_group width i l)) two
+    ∙ take-add width width (from_group width i l)
+    ∙ ap₂ ◌++◌ (row_part l i (omega arith))
+    (ap (take width) (drop-drop width (width * i) l ∙ ap (λ (k : ℕ). drop k l) (let e : width * i + width ≡ width * (i + 1) = omega arith in e)) ∙ row_part l (i + 1) (omega arith))
 
 -- so group i of all that the list has is point i
 pub row_listed : (l : List Float) (i : ℕ) (d : List Float) → i < length l / width → row_from (get_or (first_chunks width (length l / width) l) i d) 0 ≡ row_of l i

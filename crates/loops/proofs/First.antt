@@ -1,6 +1,6 @@
 -- The laws of a search for the first index, and of a count: what is found is the first, and a part of the range in which the test always fails, or
 -- always holds, is passed over at once.
-use Rattle.std.specs.Prelude.{Option, Some, None}
+use Rattle.std.specs.Prelude.{Option, Some, None, is_some}
 use mathlib.Core.Path.{◌≡◌, refl, sym, ap, ap₂, subst, ◌∙◌}
 use mathlib.Core.Bool.{Bool, true, false}
 use Prim.Native.Nat.{ℕ, zero, suc, ◌+◌, ◌-◌, ◌≤◌, ◌<◌}
@@ -8,9 +8,10 @@ use native.Mathlib.Omega.{arith}
 use lib.Dec.{ltb}
 use borrow.Author.Tests.{ltb-true, ltb-false}
 use Rattle.loops.specs.Loop.{pick, ranged}
+use Rattle.loops.specs.Any.{any_in}
 use Rattle.loops.specs.First.{first_at, no_index, first_in, counted, count_in}
 use Rattle.loops.proofs.Loop.{ranged_end, ranged_step, ranged_keeps_at, searched_again, searched_leave, searched_done}
-use Rattle.loops.proofs.Any.{cases, unlike}
+use Rattle.loops.proofs.Any.{cases, unlike, any_at, any_none}
 
 module _ (test : ℕ → Bool) (a b : ℕ) where
   -- an iteration whose test fails, one whose test holds, and the end
@@ -71,12 +72,15 @@ first_none test a b f = go (first_in test a b) (first_finds test a b)
     go None g = refl
 
 -- the indices up to m, at all of which the test fails, are passed over
-pub first_past : (test : ℕ → Bool) (a m b : ℕ) → m ≤ b → ((j : ℕ) → a ≤ j → j < m → test j ≡ false) → a ≤ m → first_in test m b ≡ first_in test a b
-first_past test a m b l f h = go (m - a) a (omega arith) (omega arith)
+pub first_past : (test : ℕ → Bool) (a m b : ℕ) → a ≤ m → ((j : ℕ) → a ≤ j → j < m → j < b → test j ≡ false) → first_in test m b ≡ first_in test a b
+first_past test a m b h f = go (m - a) a (omega arith) (omega arith)
   where
     go : (k i : ℕ) → a ≤ i → i + k ≡ m → first_in test m b ≡ first_in test i b
     go zero i h e = ap (λ (j : ℕ). first_in test j b) (let q : m ≡ i = omega arith in q)
-    go (suc k) i h e = go k (i + 1) (omega arith) (omega arith) ∙ first_again test i b (omega arith) (f i h (omega arith))
+    go (suc k) i h e =
+        go k (i + 1) (omega arith) (omega arith)
+        ∙ cases (ltb i b) (λ c. let l = ltb-true i b c in first_again test i b l (f i h (omega arith) l))
+        (λ c. let l = ltb-false i b c in sym (first_done test (i + 1) b (omega arith)) ∙ first_done test i b l)
 
 -- two searches whose tests agree
 pub first_same : (p q : ℕ → Bool) (a b : ℕ) → ((i : ℕ) → a ≤ i → i < b → p i ≡ q i) → first_in p a b ≡ first_in q a b
@@ -93,20 +97,32 @@ first_same p q a b same = sym (go (first_in p a b) (first_finds p a b))
         })
     go None g = first_none q a b (λ j h l. sym (same j h l) ∙ g j h l)
 
+-- the search that says whether there is one
+pub first_any : (test : ℕ → Bool) (a b : ℕ) → is_some (first_in test a b) ≡ any_in test a b
+first_any test a b = go (first_in test a b) (first_finds test a b)
+  where
+    go : (o : Option ℕ) → Finds test a b o → is_some o ≡ any_in test a b
+    go (Some k) g = sym (any_at test a b k g.from g.below g.holds)
+    go None g = sym (any_none test a b g)
+
 -- a count goes on over indices at all of which the test fails, and over such at all of which it holds
-module _ (test : ℕ → Bool) (a m b : ℕ) (n : ℕ) (h : a ≤ m) (l : m ≤ b) where
-  pub count_past : ((j : ℕ) → a ≤ j → j < m → test j ≡ false) → ranged (counted test) m b n ≡ ranged (counted test) a b n
+module _ (test : ℕ → Bool) (a m b : ℕ) (n : ℕ) (h : a ≤ m) where
+  pub count_past : ((j : ℕ) → a ≤ j → j < m → j < b → test j ≡ false) → ranged (counted test) m b n ≡ ranged (counted test) a b n
   count_past f = go (m - a) a (omega arith) (omega arith)
     where
       go : (k i : ℕ) → a ≤ i → i + k ≡ m → ranged (counted test) m b n ≡ ranged (counted test) i b n
       go zero i h e = ap (λ (j : ℕ). ranged (counted test) j b n) (let q : m ≡ i = omega arith in q)
       go (suc k) i h e =
           go k (i + 1) (omega arith) (omega arith)
-          ∙ ap (ranged (counted test) (i + 1) b) (let t = f i h (omega arith) in let q : n ≡ counted test i n = rw t in q)
-          ∙ sym (ranged_step (counted test) i b n (omega arith))
+          ∙ cases (ltb i b)
+          (λ c.
+          let l = ltb-true i b c in
+          let t = f i h (omega arith) l in
+          ap (ranged (counted test) (i + 1) b) (let q : n ≡ counted test i n = rw t in q) ∙ sym (ranged_step (counted test) i b n l))
+          (λ c. let l = ltb-false i b c in ranged_end (counted test) (i + 1) b n (omega arith) ∙ sym (ranged_end (counted test) i b n l))
 
-  pub count_all : ((j : ℕ) → a ≤ j → j < m → test j ≡ true) → ranged (counted test) m b (n + (m - a)) ≡ ranged (counted test) a b n
-  count_all f = go (m - a) a n (omega arith) (omega arith)
+  pub count_all : m ≤ b → ((j : ℕ) → a ≤ j → j < m → test j ≡ true) → ranged (counted test) m b (n + (m - a)) ≡ ranged (counted test) a b n
+  count_all l f = go (m - a) a n (omega arith) (omega arith)
     where
       go : (k i n : ℕ) → a ≤ i → i + k ≡ m → ranged (counted test) m b (n + k) ≡ ranged (counted test) i b n
       go zero i n h e = ap₂ (λ (j c : ℕ). ranged (counted test) j b c) (let q : m ≡ i = omega arith in q) (let q : n + 0 ≡ n = omega arith in q)
@@ -118,7 +134,7 @@ module _ (test : ℕ → Bool) (a m b : ℕ) (n : ℕ) (h : a ≤ m) (l : m ≤ 
 
 -- a count is 0 exactly where the test fails all along, and at most the number of indices
 pub count_none : (test : ℕ → Bool) (a b : ℕ) → a ≤ b → ((j : ℕ) → a ≤ j → j < b → test j ≡ false) → count_in test a b ≡ 0
-count_none test a b h f = sym (count_past test a b b 0 h (omega arith) f) ∙ ranged_end (counted test) b b 0 (omega arith)
+count_none test a b h f = sym (count_past test a b b 0 h (λ j s t u. f j s u)) ∙ ranged_end (counted test) b b 0 (omega arith)
 
 pub none_counted : (test : ℕ → Bool) (a b : ℕ) → a ≤ b → count_in test a b ≡ 0 → (j : ℕ) → a ≤ j → j < b → test j ≡ false
 none_counted test a b h =

@@ -28,8 +28,12 @@ use Rattle.walk.proofs.Unmet.{Seeds, unmet_seeds, singular_seeds, unmet_answer, 
 use Rattle.boxes.specs.declared.boxtree.Aabb.{Aabb}
 use Rattle.boxes.specs.Crossing.{Crossed}
 use Rattle.boxes.specs.Crossing.{crossed_of, crossing_of}
+use Rattle.boxes.specs.Crossing as crossing
+use Rattle.boxes.specs.Explain.{Explained}
+use Rattle.boxes.specs.Explain.{explain_of, stretch_of}
 use Rattle.boxes.proofs.Counted.{crossed_when}
-use Rattle.passing.specs.Promises.{ExactGaps, GuessUnmet, TracePromise, CheckPromise, CrossingPromise}
+use Rattle.boxes.proofs.Explained.{refused_alike, explained_when, named_crossed, crossed_named, named_below, named_some, stretch_points, stretch_empty}
+use Rattle.passing.specs.Promises.{ExactGaps, GuessUnmet, TracePromise, CheckPromise, CrossingPromise, ExplainPromise, StretchPromise}
 use Rattle.passing.proofs.Passing.{trace_passes}
 
 -- no refusal has the number 0
@@ -87,4 +91,25 @@ crossing_promised tol l count box e =
       answer = e;
       counts = λ y. w.0 (sym (ap crossed_of e) ∙ y);
       complete = λ f i c. ap crossed_of e ∙ w.1 (f, (i, c));
+    }
+
+pub explain_promised : (tol : Tolerance) (l : List Float) (count : ℕ) (box : Aabb) {r : Explained} → r ≡ explain_of tol l count box → ExplainPromise tol l count box r
+explain_promised tol l count box e =
+    record {
+      answer = e;
+      rule = λ q f. (explained_when tol l count box q).0 (sym e ∙ f);
+      complete = λ f q x. e ∙ (explained_when tol l count box q).1 (f, x);
+      refused = ap crossing.refusal_of e ∙ refused_alike tol l count box;
+      crosses = λ i f. named_crossed tol l count box i (sym e ∙ f);
+      named = λ y. let n = crossed_named tol l count box y in (n.0, e ∙ n.1);
+      below = λ q f. named_below tol l count box q (sym e ∙ f);
+      some = λ n f. named_some tol l count box n (sym e ∙ f);
+    }
+
+pub stretch_promised : (tol : Tolerance) (l : List Float) (count : ℕ) (box : Aabb) {s : List Float} → s ≡ stretch_of tol l count box → StretchPromise tol l count box s
+stretch_promised tol l count box e =
+    record {
+      answer = e;
+      points = λ i f. e ∙ stretch_points tol l count box i f;
+      empty = λ f. e ∙ stretch_empty tol l count box f;
     }

@@ -1,6 +1,6 @@
 -- What the public calls promise, on one page. A contract is one of the records at the end: equations settle the answer and every lent output from the
 -- inputs alone, refused calls too; the promises stand beside them by name. The number of an answer is 0 where nothing is refused. Definitions only.
-use Rattle.std.specs.Prelude.{◌≡◌, true, List, ℕ, ◌*◌, ◌≤◌, ◌<◌, leb, length, take, Float, Ok, Err}
+use Rattle.std.specs.Prelude.{◌≡◌, true, false, List, [], ◌++◌, ℕ, ◌+◌, ◌*◌, ◌≤◌, ◌<◌, leb, length, take, Float, Ok, Err}
 use Rattle.loops.specs.Loop.{pick}
 use Rattle.loops.specs.Over.{written}
 use Rattle.wire.specs.Wire.{AllBytes}
@@ -19,6 +19,8 @@ use Rattle.meeting.specs.Newton.{most_rounds, meet_of}
 use Rattle.certificate.specs.Passes.{parameters_at, Passes}
 use Rattle.certificate.specs.Check.{check_of}
 use Rattle.refusal.specs.Verdict as verdict
+use Rattle.groups.specs.Groups.{most_points}
+use Rattle.groups.specs.Row.{numbers_of, row_at}
 use Rattle.groups.specs.Traced.{TraceAnswer}
 use Rattle.groups.specs.Traced.{closing_at, traced, outcome, count_of, start_of, closing_of}
 use Rattle.groups.specs.Traced as trace
@@ -28,6 +30,12 @@ use Rattle.boxes.specs.Crossing.{Crossed}
 use Rattle.boxes.specs.Counts.{Counts, Fit}
 use Rattle.boxes.specs.Crosses.{grown_of}
 use Rattle.boxes.specs.Crossing.{crossed_of, crossing_of}
+use Rattle.boxes.specs.Crossing as crossing
+use Rattle.boxes.specs.declared.explain.Reason.{Reason}
+use Rattle.boxes.specs.declared.explain.Reason.TheVariants.{Segment, NoneMet}
+use Rattle.boxes.specs.Explain.{Explained}
+use Rattle.boxes.specs.Explain.{explain_of, value_of, stretch_of}
+use Rattle.boxes.specs.Reasons.{Explains}
 use Rattle.job.specs.declared.file.Job.{Job}
 use Rattle.job.specs.File.{job_of}
 use Rattle.trace_file.specs.Write.{Written}
@@ -106,6 +114,30 @@ pub record CrossingPromise (tol : Tolerance) (l : List Float) (count : ℕ) (box
   -- yes exactly when nothing refuses and some segment counts
   pub counts : crossed_of r ≡ true → Fit tol l count box × ((i : ℕ) × Counts l count (grown_of box tol.confusion) i)
   pub complete : Fit tol l count box → (i : ℕ) → Counts l count (grown_of box tol.confusion) i → crossed_of r ≡ true
+
+-- why the first `count` points of a list cross a box, or why not
+pub record ExplainPromise (tol : Tolerance) (l : List Float) (count : ℕ) (box : Aabb) (r : Explained) : Type 0 where
+  pub answer : r ≡ explain_of tol l count box
+  -- "For every trace and box the answer is proved to be the one that rule gives": where nothing refuses, the reason that holds and that no other
+  -- which holds is named before; and it is that reason
+  pub rule : (q : Reason) → r ≡ Ok q → Fit tol l count box × Explains l count (grown_of box tol.confusion) q
+  pub complete : Fit tol l count box → (q : Reason) → Explains l count (grown_of box tol.confusion) q → r ≡ Ok q
+  -- "The first call's refusals and their order are the crossing's"
+  pub refused : crossing.refusal_of r ≡ crossing.refusal_of (crossing_of tol l count box)
+  -- a segment is named exactly where the crossing says yes
+  pub crosses : (i : ℕ) → r ≡ Ok (Segment i) → crossed_of (crossing_of tol l count box) ≡ true
+  pub named : crossed_of (crossing_of tol l count box) ≡ true → (i : ℕ) × (r ≡ Ok (Segment i))
+  -- the value beside a reason lies below the count of points, so that it has a place in a word; a count of segments is 1 at least
+  pub below : (q : Reason) → r ≡ Ok q → (value_of q < count) × (count ≤ most_points)
+  pub some : (n : ℕ) → r ≡ Ok (NoneMet n) → 1 ≤ n
+
+-- the stretch of the lent trace that crosses a box
+pub record StretchPromise (tol : Tolerance) (l : List Float) (count : ℕ) (box : Aabb) (stretch : List Float) : Type 0 where
+  pub answer : stretch ≡ stretch_of tol l count box
+  -- "made of that segment's two points": the numbers of point i, then those of the next
+  pub points : (i : ℕ) → explain_of tol l count box ≡ Ok (Segment i) → stretch ≡ numbers_of (row_at l i) ++ numbers_of (row_at l (i + 1))
+  -- "where there is no such segment, or the first call refuses, it is empty"
+  pub empty : crossed_of (crossing_of tol l count box) ≡ false → stretch ≡ []
 
 -- a trace written to a file of a version with w numbers a point; `before` and `after` are the lent bytes
 pub record WritePromise (version w : ℕ) (l : List Float) (count start closing : ℕ) (before after : List ℕ) (r : Written) : Type 0 where
