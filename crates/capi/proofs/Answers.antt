@@ -1,14 +1,13 @@
--- What the point's and the crossing's words say, from what the calls below them answer.
-use Rattle.std.specs.Prelude.{Ok, Err}
+-- What the point's word says, and the box of the corners given, from what the calls below them answer.
+use Rattle.std.specs.Prelude.{Some, Ok, Err}
 use mathlib.Core.Path.{◌≡◌, refl}
 use mathlib.Core.List.{List, [], ◌∷◌, ◌++◌}
 use Prim.Native.Nat.{ℕ, ◌+◌, ◌≤◌, ◌<◌}
 use native.Mathlib.Omega.{arith}
 use lib.ListN.{length, take, drop, get_or}
 use lib.Ieee.{Float, nan}
-use borrow.Author.Tests.{le-ltb, lt-ltb}
+use borrow.Author.Tests.{le-leb, le-ltb, lt-ltb}
 use Rattle.std.proofs.lemmas.List.{get_or-take}
-use Rattle.number.specs.Operators.{bits}
 use Rattle.refusal.specs.declared.Refusal.{Refusal}
 use Rattle.refusal.specs.declared.Refusal.TheVariants.{Lent}
 use Rattle.refusal.specs.Refusal.{number_of}
@@ -16,12 +15,10 @@ use Rattle.geometry.specs.declared.point.Point3D.{Point3D}
 use Rattle.patch.specs.declared.patch.Patch.{Patch}
 use Rattle.patch.specs.Located.{Located}
 use Rattle.patch.specs.Located.{located_of}
-use Rattle.boxes.specs.Crossing.{Crossed}
-use Rattle.boxes.specs.Crossing.{crossing_of}
 use Rattle.capi.specs.Answer.{answered}
 use Rattle.job.specs.File.{surface_file}
 use Rattle.capi.specs.Point.{put3, point_on, point_answer}
-use Rattle.capi.specs.Crossing.{crossed_word, corner_at, crossing_answer}
+use Rattle.capi.specs.Crossing.{corner_at, box_given}
 
 -- three numbers put down at the front
 put3_front : (t : List Float) (x y z : Float) → 3 ≤ length t → put3 t x y z ≡ (x ∷ y ∷ z ∷ []) ++ drop 3 t
@@ -54,9 +51,7 @@ module _ (bytes : List ℕ) (u v : Float) (t : List Float) where
 pub corner_taken : (l : List Float) (at : ℕ) → at + 3 ≤ 6 → corner_at (take 6 l) at ≡ corner_at l at
 corner_taken l at h = rw (get_or-take 6 l at nan (omega arith), get_or-take 6 l (at + 1) nan (omega arith), get_or-take 6 l (at + 2) nan (omega arith))
 
-pub crossing_word : (confusion angular : Float) (l : List Float) (count : ℕ) (corners : List Float) → 6 ≤ length corners → {lo hi : Point3D} {x : Crossed} {w : ℕ}
-    → lo ≡ corner_at corners 0 → hi ≡ corner_at corners 3
-    → x ≡ crossing_of (record { confusion = confusion; angular = angular; parametric = bits 0 }) l count (record { low = lo; high = hi })
-    → w ≡ crossed_word x → w ≡ crossing_answer confusion angular l count corners
-unfolding crossing_answer
-crossing_word confusion angular l count corners h a b e f = rw (le-ltb _ _ h, ← a, ← b, ← e) f
+-- so the box of them is that of the list
+pub box_taken : (l : List Float) → 6 ≤ length l → {lo hi : Point3D} → lo ≡ corner_at l 0 → hi ≡ corner_at l 3 → Some (record { low = lo; high = hi }) ≡ box_given l
+unfolding box_given
+box_taken l h a b = rw (le-leb _ _ h, ← a, ← b)

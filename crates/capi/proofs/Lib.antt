@@ -1,3 +1,4 @@
 pub mod Words
 pub mod Files
 pub mod Answers
+pub mod Explained

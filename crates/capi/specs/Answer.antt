@@ -18,6 +18,14 @@ number_in w = w % 2 ^ 8
 abbrev pub closing_in : ℕ → ℕ
 closing_in w = w / 2 ^ 8 % 2 ^ 8
 
+-- the same byte of a crossing: 1 if the box is crossed
+abbrev pub crossed_in : ℕ → ℕ
+crossed_in w = w / 2 ^ 8 % 2 ^ 8
+
+-- the same byte of an explanation: the kind of reason
+abbrev pub kind_in : ℕ → ℕ
+kind_in w = w / 2 ^ 8 % 2 ^ 8
+
 -- the same byte of a walk that is refused: the Newton round beside 9 and 21
 abbrev pub round_in : ℕ → ℕ
 round_in w = w / 2 ^ 8 % 2 ^ 8

@@ -1,12 +1,14 @@
 -- The crossing's word. Definitions only.
-use Rattle.std.specs.Prelude.{List, ℕ, ◌+◌, ◌*◌, ltb, length, get_or, Float}
+use Rattle.std.specs.Prelude.{List, ℕ, ◌+◌, ◌*◌, leb, length, get_or, Float, Option, Some, None}
 use Rattle.std.specs.Float.{nan}
 use Rattle.loops.specs.Loop.{pick}
 use Rattle.number.specs.Operators.{bits}
 use Rattle.refusal.specs.Refusal.{number_of}
 use Rattle.refusal.specs.declared.Refusal.TheVariants.{Lent}
 use Rattle.geometry.specs.Point.{point_of}
+use Rattle.geometry.specs.declared.tolerance.Tolerance.{Tolerance}
 use Rattle.geometry.specs.declared.point.Point3D.{Point3D}
+use Rattle.boxes.specs.declared.boxtree.Aabb.{Aabb}
 use Rattle.boxes.specs.Crossing.{Crossed}
 use Rattle.boxes.specs.Crossing.{refusal_of, crossed_of, crossing_of}
 
@@ -18,10 +20,19 @@ crossed_word answer = refusal_of answer + 256 * pick (crossed_of answer) 1 0
 abbrev pub corner_at : List Float → ℕ → Point3D
 corner_at l at = point_of (get_or l at nan) (get_or l (at + 1) nan) (get_or l (at + 2) nan)
 
--- the corners: low x, y, z, then high; fewer than six numbers answer 8. "The parametric tolerance isn't read."
+-- the corners: low x, y, z, then high
+abbrev pub box_in : List Float → Aabb
+box_in corners = record { low = corner_at corners 0; high = corner_at corners 3 }
+
+-- the box, where six numbers are given
+unfoldable pub box_given : List Float → Option Aabb
+box_given corners = pick (leb 6 (length corners)) (Some (box_in corners)) None
+
+-- "The parametric tolerance isn't read."
+abbrev pub tolerance_in : Float → Float → Tolerance
+tolerance_in confusion angular = record { confusion = confusion; angular = angular; parametric = bits 0 }
+
+-- fewer than six corners answer 8
 unfoldable pub crossing_answer : Float → Float → List Float → ℕ → List Float → ℕ
 crossing_answer confusion angular buffer count corners =
-    pick (ltb (length corners) 6) (number_of Lent)
-    (crossed_word
-    (crossing_of (record { confusion = confusion; angular = angular; parametric = bits 0 }) buffer count
-    (record { low = corner_at corners 0; high = corner_at corners 3 })))
+    pick (leb 6 (length corners)) (crossed_word (crossing_of (tolerance_in confusion angular) buffer count (box_in corners))) (number_of Lent)

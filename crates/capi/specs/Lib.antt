@@ -3,4 +3,5 @@ pub mod Point
 pub mod Trace
 pub mod Check
 pub mod Crossing
+pub mod Explain
 pub mod File

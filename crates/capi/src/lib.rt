@@ -8,7 +8,9 @@ ghost use Rattle.capi.specs.Answer.{answered};
 ghost use Rattle.groups.specs.Traced.{code_of};
 ghost use Rattle.refusal.specs.Verdict.{refusal_of, index_in};
 ghost use Rattle.capi.specs.Check.{checked_word, CheckWord};
-ghost use Rattle.capi.specs.Crossing.{crossed_word, corner_at, crossing_answer};
+ghost use Rattle.capi.specs.Crossing.{crossed_word, corner_at, box_given, tolerance_in, crossing_answer};
+ghost use Rattle.capi.specs.Explain.{reason_word, value_beside, explained_word, ExplainWord};
+ghost use Rattle.boxes.specs.Explain.{value_of};
 ghost use Rattle.capi.specs.File.{written_word, WriteWord, ReadWord};
 ghost use Rattle.capi.specs.Point.{point_answer};
 ghost use Rattle.capi.specs.Trace.{traced_word, Bounded, TraceWord};
@@ -18,6 +20,7 @@ ghost use Rattle.sqrt.specs.Sqrt.{SqrtGives};
 ghost use Rattle.trace_file.specs.Write.{bytes_of};
 
 use boxes::Aabb;
+use boxes::explain::Reason;
 use geometry::{Point3D, Tolerance};
 use groups::{Claim, Traced};
 use refusal::Refusal;
@@ -201,6 +204,28 @@ fn corner(corners: &[f64; 6], at: usize) -> Point3D
     Point3D::new(corners[at], corners[at + 1], corners[at + 2])
 }
 
+// The box whose corners are given, low x, y, z, then high; none where there are fewer than six numbers.
+fn box_given(corners: &[f64]) -> Option<Aabb>
+    ensures { result ≡ box_given corners.now }
+{
+    let corners = corners.first_chunk::<6>()?;
+    Some(Aabb {
+        low: corner(corners, 0),
+        high: corner(corners, 3),
+    })
+}
+
+// What C says of the tolerance: the parametric one isn't read.
+fn tolerance(confusion: f64, angular: f64) -> Tolerance
+    ensures { result ≡ tolerance_in confusion angular }
+{
+    Tolerance {
+        confusion,
+        angular,
+        parametric: 0.0,
+    }
+}
+
 // Whether a trace of `count` points crosses the box whose corners are given, low x, y, z, then high. Fewer than six corners answer 8.
 pub fn geomcore_crossing(
     confusion: f64,
@@ -212,19 +237,54 @@ pub fn geomcore_crossing(
     ensures { result ≡ crossing_answer confusion angular buffer.now count corners.now }
 {
     // Kept (1): a function that ends in `?` would take the same five arguments for this one refusal.
-    let Some(corners) = corners.first_chunk::<6>() else {
+    let Some(b) = box_given(corners) else {
         return Refusal::Lent.number();
     };
-    let tol = Tolerance {
-        confusion,
-        angular,
-        parametric: 0.0,
-    };
-    let b = Aabb {
-        low: corner(corners, 0),
-        high: corner(corners, 3),
-    };
+    let tol = tolerance(confusion, angular);
     crossed_word(geomcore::call::crossing(tol, buffer, count as usize, b))
+}
+
+// The word of a reason: 2^8 times its kind, and 2^32 times its value.
+fn reason_word(reason: Reason) -> u64
+    requires { value_of reason < 4294967296 }
+    ensures { result ≡ reason_word reason }
+{
+    match reason {
+        Reason::Segment(i) => 256 + (i as u64) * 4294967296,
+        Reason::WholeApart(axis) => 512 + (axis as u64) * 4294967296,
+        Reason::RunsApart => 768,
+        Reason::NoneMet(n) => 1024 + (n as u64) * 4294967296,
+    }
+}
+
+// The answer's word: the reason's, or the refusal's number.
+fn explained_word(answer: Result<Reason, Refusal>) -> u64
+    requires { value_beside answer < 4294967296 }
+    ensures { result ≡ explained_word answer }
+{
+    match answer {
+        Ok(reason) => reason_word(reason),
+        Err(refusal) => refusal.number(),
+    }
+}
+
+// Why a trace of `count` points crosses the box whose corners are given, or why not: in the byte above the number 1 a segment, 2 the whole
+// box apart, 3 all runs apart, 4 none met; in the upper half the segment's index, the axis, 0, how many segments. Fewer than six corners
+// answer 8.
+pub fn geomcore_explain(
+    confusion: f64,
+    angular: f64,
+    buffer: &[f64],
+    count: u64,
+    corners: &[f64],
+) -> u64
+    ensures { ExplainWord confusion angular buffer.now count corners.now result }
+{
+    let Some(b) = box_given(corners) else {
+        return Refusal::Lent.number();
+    };
+    let tol = tolerance(confusion, angular);
+    explained_word(geomcore::call::explain(tol, buffer, count as usize, b))
 }
 
 // The answer's word: the refusal's number, and 2^32 times how many bytes were written.

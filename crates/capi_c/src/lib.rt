@@ -7,6 +7,7 @@ ghost use Rattle.std.specs.Prelude.{◌≡◌};
 ghost use Rattle.capi.specs.Answer.{answered};
 ghost use Rattle.capi.specs.Check.{CheckWord};
 ghost use Rattle.capi.specs.Crossing.{crossing_answer};
+ghost use Rattle.capi.specs.Explain.{ExplainWord};
 ghost use Rattle.capi.specs.File.{WriteWord, ReadWord};
 ghost use Rattle.capi.specs.Point.{point_answer};
 ghost use Rattle.capi.specs.Trace.{TraceWord};
@@ -93,6 +94,22 @@ pub extern "C" fn geomcore_crossing(
     ensures { result ≡ crossing_answer confusion angular buffer.now count corners.now }
 {
     capi::geomcore_crossing(confusion, angular, buffer, count, corners)
+}
+
+// Why a trace of `count` points crosses the box whose corners are given, or why not: in the byte above the number 1 a segment, 2 the whole
+// box apart, 3 all runs apart, 4 none met; in the upper half the segment's index, the axis, 0, how many segments. Fewer than six corners
+// answer 8.
+#[unsafe(no_mangle)]
+pub extern "C" fn geomcore_explain(
+    confusion: f64,
+    angular: f64,
+    buffer: &[f64],
+    count: u64,
+    corners: &[f64],
+) -> u64
+    ensures { ExplainWord confusion angular buffer.now count corners.now result }
+{
+    capi::geomcore_explain(confusion, angular, buffer, count, corners)
 }
 
 // Writes the first `count` points of the buffer, seven numbers each, to the front of the lent bytes as a trace file of version 1.

@@ -12,7 +12,8 @@ use Rattle.groups.specs.declared.traced.Claim.{Claim}
 use Rattle.groups.specs.declared.traced.Closing.{Closing}
 use Rattle.groups.specs.Groups.{count_fits}
 use Rattle.groups.specs.Traced.{code_of, closing_at, closing_in}
-use Rattle.groups.proofs.Closings.{code_back, let_through, stopped_by}
+use Rattle.loops.proofs.Choice.{let_through, stopped_by}
+use Rattle.groups.proofs.Closings.{code_back}
 use Rattle.certificate.specs.Check.{closing_so, claim_so}
 use Rattle.certificate.proofs.Passed.{code_so}
 

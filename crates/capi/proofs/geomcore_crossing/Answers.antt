@@ -1,19 +1,18 @@
-use mathlib.Core.Path.{◌∙◌}
-use native.Mathlib.Omega.{arith}
-use borrow.Author.Tests.{lt-ltb}
-use Rattle.capi.proofs.Answers.{corner_taken, crossing_word}
-use Rattle.capi.specs.Crossing.{crossing_answer}
+use mathlib.Core.Path.{sym, ◌∙◌}
+use lib.Dec.{leb}
+use lib.ListN.{length}
+use Rattle.loops.proofs.Choice.{let_through, stopped_by}
+use Rattle.capi.specs.Crossing.{box_in, box_given, crossing_answer}
 use Rattle.capi.proofs.geomcore_crossing.Goals as goal
 
 pub returns-in_default : goal.returns-in_default
-unfolding crossing_answer
-returns-in_default c = rw (lt-ltb _ 6 c.in_default.ensures.cases) c.number.ensures
+unfolding box_given crossing_answer
+returns-in_default c =
+    let l = c.args.corners.now in
+    rw (stopped_by (leb 6 (length l)) (box_in l) (sym c.box_given.ensures ∙ c.in_default.is)) c.number.ensures
 
 pub returns : goal.returns
+unfolding box_given crossing_answer
 returns c =
-    let g = c.args in
-    let chunk = c.in-Some.ensures.cases in
-    crossing_word g.confusion g.angular g.buffer.now g.count g.corners.now chunk.enough
-    (rw chunk.same at c.corner.ensures ∙ corner_taken g.corners.now 0 (omega arith))
-    (rw chunk.same at c.corner-2.ensures ∙ corner_taken g.corners.now 3 (omega arith))
-    c.crossing.ensures.answer c.crossed_word.ensures
+    let s = let_through (leb 6 (length c.args.corners.now)) (sym c.box_given.ensures ∙ c.in-Some.is) in
+    rw (s.0, s.1, ← c.tolerance-tol.ensures, ← c.crossing.ensures.answer) c.crossed_word.ensures

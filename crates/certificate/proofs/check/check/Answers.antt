@@ -16,7 +16,8 @@ use Rattle.groups.specs.Traced.{code_of, closing_at}
 use Rattle.groups.specs.declared.traced.Closing.{Closing}
 use Rattle.loops.specs.Loop.{pick}
 use Rattle.groups.specs.declared.traced.Claim.{Claim}
-use Rattle.groups.proofs.Closings.{code_back, let_through, stopped_by}
+use Rattle.loops.proofs.Choice.{let_through, stopped_by}
+use Rattle.groups.proofs.Closings.{code_back}
 use Rattle.groups.proofs.Groups.{holds_length}
 use Rattle.certificate.specs.Passes.{closing_end}
 use Rattle.certificate.specs.Check.{is_own, points_verdict, claim_so, check_of}

@@ -5,7 +5,7 @@ use Rattle.std.specs.Prelude.{Option, Some, None}
 use Rattle.groups.specs.declared.traced.Claim.{Claim}
 use Rattle.groups.specs.declared.traced.Closing.{Closing}
 use Rattle.groups.specs.Traced.{closing_at, closing_in}
-use Rattle.groups.proofs.Closings.{let_through, stopped_by}
+use Rattle.loops.proofs.Choice.{let_through, stopped_by}
 use Rattle.trace_file.specs.File.{claim_fits}
 use Rattle.trace_file.proofs.Fitness.{claim_fits_lem}
 use Rattle.trace_file.proofs.head.HeadTryFromClaim.try_from.Goals as goal
