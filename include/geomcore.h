@@ -35,6 +35,12 @@ extern "C" {
 /* More than a call was seen to use of the stack (tools/limits.sh measures it). */
 #define GEOMCORE_STACK_BYTES 8192
 
+/* The kinds of reason in geomcore_explain's word, word >> 8 & 255. */
+#define GEOMCORE_SEGMENT 1
+#define GEOMCORE_WHOLE_APART 2
+#define GEOMCORE_RUNS_APART 3
+#define GEOMCORE_NONE_MET 4
+
 /* MXCSR but for the flags that operations leave: as a program starts, and the bits that say so. */
 #define GEOMCORE_MODE 0x1f80u
 #define GEOMCORE_MODE_BITS 0xffc0u
@@ -97,6 +103,21 @@ uint64_t geomcore_check(const uint8_t *job, size_t bytes, const double *buffer, 
  * x, y, z, then high; fewer than six numbers given are refused by 8, before all else. */
 uint64_t geomcore_crossing(double confusion, double angular, const double *buffer, size_t lent, uint64_t count,
                            const double *corners, size_t given);
+
+/* Why a trace of count points crosses a box, corners as for geomcore_crossing, or why not: the refusal's number + 2^8 times the kind of the
+ * reason + 2^32 times its value. The first of these that holds is the answer. Apart is always from the box grown by 8000 times the
+ * confusion. A run holds 16 segments, from points 0, 16, 32 and on; the last one what is left.
+ *   GEOMCORE_SEGMENT:     some segment counts: neither the whole trace's box nor its run's is apart, and it meets the grown box; value: the
+ *                         index, from 0, of the first. Segment i goes from point i to i + 1: buffer[7 i] and the 13 numbers after it.
+ *   GEOMCORE_WHOLE_APART: the whole trace's box is apart; value: the first axis, 0, 1, 2 for x, y, z, on which it is.
+ *   GEOMCORE_RUNS_APART:  the boxes of all runs are apart; value: 0.
+ *   GEOMCORE_NONE_MET:    no segment of the runs whose box is not apart meets the grown box; value: how many segments these runs hold.
+ * Refused as by geomcore_crossing, in this order: 5, 8, 12 (the count alone), 18, 17; fewer than six corners given by 8, before all else.
+ * Kind and value are then 0.
+ * Proved: the answer is the one that this rule gives. Its low byte is geomcore_crossing's; its kind is GEOMCORE_SEGMENT exactly where
+ * geomcore_crossing says that the trace crosses, and no segment before that one counts; beside GEOMCORE_NONE_MET stands at least 1. */
+uint64_t geomcore_explain(double confusion, double angular, const double *buffer, size_t lent, uint64_t count,
+                          const double *corners, size_t given);
 
 /* The trace file, version 1: how office and unit pass a line. Big-endian: 4 bytes length of what follows (6 + 56 count), version byte 1,
  * 2 bytes count, 2 bytes start's index, 1 byte closing code, then seven 8-byte numbers a point. One file stands for a trace: -0 and +0
