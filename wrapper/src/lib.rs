@@ -44,6 +44,15 @@ extern "C" {
         corners: *const f64,
         given: usize,
     ) -> u64;
+    fn geomcore_explain(
+        confusion: f64,
+        angular: f64,
+        buffer: *const f64,
+        lent: usize,
+        count: u64,
+        corners: *const f64,
+        given: usize,
+    ) -> u64;
     fn geomcore_write_v1(
         buffer: *const f64,
         lent: usize,
@@ -228,6 +237,26 @@ pub fn check(job: &[u8], buffer: &[f64], line: Line) -> Result<(), Refusal> {
     Refusal::of(word).map_or(Ok(()), Err)
 }
 
+/// A C call on a trace and a box.
+type OnBox = unsafe extern "C" fn(f64, f64, *const f64, usize, u64, *const f64, usize) -> u64;
+
+/// The word of such a call: confusion and angular, the first `count` points, the box's low and high corner.
+fn on_box(call: OnBox, tol: [f64; 2], buffer: &[f64], count: usize, sides: [[f64; 3]; 2]) -> u64 {
+    let corners = sides.as_flattened();
+    // SAFETY: each pointer comes with the length of what it was taken from; the callee keeps neither and writes nothing.
+    guarded(|| unsafe {
+        call(
+            tol[0],
+            tol[1],
+            buffer.as_ptr(),
+            buffer.len(),
+            count as u64,
+            corners.as_ptr(),
+            corners.len(),
+        )
+    })
+}
+
 /// Whether the first `count` points of a trace cross a box.
 pub fn crossing(
     confusion: f64,
@@ -237,20 +266,90 @@ pub fn crossing(
     low: [f64; 3],
     high: [f64; 3],
 ) -> Result<bool, Refusal> {
-    let corners = [low[0], low[1], low[2], high[0], high[1], high[2]];
-    // SAFETY: each pointer comes with the length of what it was taken from; the callee keeps neither and writes nothing.
-    let word = guarded(|| unsafe {
-        geomcore_crossing(
-            confusion,
-            angular,
-            buffer.as_ptr(),
-            buffer.len(),
-            count as u64,
-            corners.as_ptr(),
-            corners.len(),
-        )
-    });
+    let tol = [confusion, angular];
+    let word = on_box(geomcore_crossing, tol, buffer, count, [low, high]);
     Refusal::of(word).map_or(Ok(word & 0x100 != 0), Err)
+}
+
+/// Why a line crosses a box, or why not: the first of these that holds. Apart is always from the box grown by 8000 times the confusion; a
+/// run holds 16 segments, the last one what is left.
+#[derive(Clone, Copy, Debug, PartialEq, Eq)]
+pub enum Reason {
+    /// Some segment counts (the whole line's box and its run's are not apart, and it meets the grown box): the index, from 0, of the first.
+    Segment(usize),
+    /// The whole line's box is apart: the first axis, 0, 1, 2 for x, y, z, on which it is.
+    WholeApart(usize),
+    /// The boxes of all runs are apart.
+    RunsApart,
+    /// No segment of the runs whose box is not apart meets the grown box: how many segments these runs hold.
+    NoneMet(usize),
+}
+
+impl Reason {
+    /// The reason of an explaining word that refuses nothing.
+    fn of(word: u64) -> Reason {
+        let value = (word >> 32) as usize;
+        match word >> 8 & 0xff {
+            1 => Reason::Segment(value),
+            2 => Reason::WholeApart(value),
+            3 => Reason::RunsApart,
+            _ => Reason::NoneMet(value),
+        }
+    }
+}
+
+impl std::fmt::Display for Reason {
+    fn fmt(&self, f: &mut std::fmt::Formatter<'_>) -> std::fmt::Result {
+        match self {
+            Reason::Segment(i) => write!(f, "crosses at segment {i}"),
+            Reason::WholeApart(axis) => {
+                let name = ["x", "y", "z"].get(*axis).unwrap_or(&"no axis");
+                write!(
+                    f,
+                    "the whole line lies apart from the grown box along {name}"
+                )
+            }
+            Reason::RunsApart => {
+                write!(f, "every run of 16 segments lies apart from the grown box")
+            }
+            Reason::NoneMet(n) => write!(
+                f,
+                "no segment of the runs not apart from the grown box meets it (segments in these runs: {n})"
+            ),
+        }
+    }
+}
+
+/// Why the first `count` points of a trace cross a box, or why not. Proved: the reason is the one that the rule of `Reason` gives; it is a
+/// segment exactly where `crossing` says yes, and what `crossing` refuses is refused by the same number.
+pub fn explain(
+    confusion: f64,
+    angular: f64,
+    buffer: &[f64],
+    count: usize,
+    low: [f64; 3],
+    high: [f64; 3],
+) -> Result<Reason, Refusal> {
+    let tol = [confusion, angular];
+    let word = on_box(geomcore_explain, tol, buffer, count, [low, high]);
+    Refusal::of(word).map_or(Ok(Reason::of(word)), Err)
+}
+
+/// The two points of the segment that `explain` names, seven numbers each: that part of the buffer lent, no copy. It is empty where
+/// `explain` names no segment or refuses.
+pub fn stretch(
+    confusion: f64,
+    angular: f64,
+    buffer: &[f64],
+    count: usize,
+    low: [f64; 3],
+    high: [f64; 3],
+) -> &[f64] {
+    let numbers = match explain(confusion, angular, buffer, count, low, high) {
+        Ok(Reason::Segment(i)) => 7 * i..7 * (i + 2),
+        _ => 0..0,
+    };
+    buffer.get(numbers).unwrap_or_default()
 }
 
 /// How many bytes a trace file of version 1 has.

@@ -1,5 +1,7 @@
 //! The calls through the archive, on document 01's examples.
 
+use geomcore::Reason;
+
 /// Example 10's job file: two planes that meet along the x axis.
 fn example() -> Vec<u8> {
     let plane = |y: [f64; 3], z: [f64; 3]| {
@@ -47,6 +49,13 @@ fn cylinder() -> Vec<u8> {
     bytes
 }
 
+/// Writes numbers into a job file, from a byte on.
+fn put(job: &mut [u8], at: usize, numbers: &[f64]) {
+    for (k, x) in numbers.iter().enumerate() {
+        job[at + 8 * k..at + 8 * k + 8].copy_from_slice(&x.to_be_bytes());
+    }
+}
+
 #[test]
 fn point_of_a_cylinder() {
     let mut surface = cylinder();
@@ -66,12 +75,20 @@ fn point_of_a_cylinder() {
     assert_eq!(geomcore::point(&surface, 0.0, 5.0).unwrap_err().number, 19);
 }
 
+/// A trace's numbers, of points at (x, y, 0).
+fn level(points: impl IntoIterator<Item = [f64; 2]>) -> Vec<f64> {
+    let point = |[x, y]: [f64; 2]| [x, y, 0.0, 0.0, 0.0, 0.0, 0.0];
+    points.into_iter().flat_map(point).collect()
+}
+
+/// Example 8's points.
+fn four_points() -> Vec<f64> {
+    level((0..4).map(|i| [0.1 * f64::from(i), 0.0]))
+}
+
 #[test]
 fn crossing_of_four_points() {
-    let mut buffer = [0.0; 28];
-    for i in 0..4 {
-        buffer[7 * i] = 0.1 * i as f64;
-    }
+    let buffer = four_points();
     let cross = |y: f64| {
         geomcore::crossing(
             2f64.powi(-20),
@@ -85,6 +102,144 @@ fn crossing_of_four_points() {
     assert_eq!(cross(0.005), Ok(true));
     assert_eq!(cross(0.01), Ok(false));
     assert_eq!(cross(f64::NAN).unwrap_err().number, 17);
+}
+
+/// What is said of a level trace and the box that is the point (x, y, 0); the stretch is that part of the trace itself.
+fn explained(buffer: &[f64], [x, y]: [f64; 2]) -> Reason {
+    let (confusion, count, corner) = (2f64.powi(-20), buffer.len() / 7, [x, y, 0.0]);
+    let reason = geomcore::explain(confusion, 1e-12, buffer, count, corner, corner).unwrap();
+    let stretch = geomcore::stretch(confusion, 1e-12, buffer, count, corner, corner);
+    match reason {
+        Reason::Segment(i) => assert!(std::ptr::eq(stretch, &buffer[7 * i..7 * (i + 2)])),
+        _ => assert!(stretch.is_empty()),
+    }
+    reason
+}
+
+/// Example 8 explained, and the first axis where several are apart.
+#[test]
+fn why_four_points_cross() {
+    let buffer = four_points();
+    assert_eq!(explained(&buffer, [0.15, 0.005]), Reason::Segment(1));
+    assert_eq!(explained(&buffer, [0.15, 0.01]), Reason::WholeApart(1));
+    assert_eq!(explained(&buffer, [0.31, 0.01]), Reason::WholeApart(0));
+    assert_eq!(explained(&buffer, [0.2, 0.0]), Reason::Segment(1));
+    let above = [0.15, 0.0, 0.5];
+    let reason = geomcore::explain(2f64.powi(-20), 1e-12, &buffer, 4, above, above);
+    assert_eq!(reason, Ok(Reason::WholeApart(2)));
+}
+
+/// Two runs at a right angle, 16 segments along x and 16 along y, and a third run of one segment aslant.
+#[test]
+fn why_runs_cross() {
+    let along = (0..17).map(|i| [f64::from(i), 0.0]);
+    let up = (1..17).map(|i| [16.0, f64::from(i)]);
+    let buffer = level(along.chain(up).chain([[15.0, 17.0]]));
+    assert_eq!(buffer.len(), 7 * 34);
+    assert_eq!(explained(&buffer, [15.5, 0.0]), Reason::Segment(15));
+    assert_eq!(explained(&buffer, [16.0, 0.0]), Reason::Segment(15));
+    assert_eq!(explained(&buffer, [16.0, 0.5]), Reason::Segment(16));
+    assert_eq!(explained(&buffer, [15.5, 16.5]), Reason::Segment(32));
+    assert_eq!(explained(&buffer, [8.0, 8.0]), Reason::RunsApart);
+    assert_eq!(explained(&buffer, [15.1, 16.1]), Reason::NoneMet(1));
+    assert_eq!(explained(&buffer, [8.0, 17.1]), Reason::WholeApart(1));
+}
+
+/// Two runs aslant, the second going on or coming back over the first.
+#[test]
+fn why_runs_aslant_cross() {
+    let on = level((0..33).map(|i| [f64::from(i); 2]));
+    assert_eq!(explained(&on, [1.0, 15.0]), Reason::NoneMet(16));
+    assert_eq!(explained(&on, [1.0, 17.0]), Reason::RunsApart);
+    assert_eq!(explained(&on, [16.0, 16.005]), Reason::Segment(15));
+    let back = level((0..33).map(|i: i32| [f64::from(16 - (16 - i).abs()); 2]));
+    assert_eq!(explained(&back, [1.0, 15.0]), Reason::NoneMet(32));
+    assert_eq!(explained(&back, [1.5, 1.5]), Reason::Segment(1));
+}
+
+/// Every refusal, in its order: each call has all the later faults too. Where one refuses, the stretch is empty.
+#[test]
+fn refused_by_the_explanation() {
+    let fit = four_points();
+    let mut unfit = fit.clone();
+    unfit[0] = f64::NAN;
+    let number = |confusion: f64, buffer: &[f64], count: usize, y: f64| {
+        let (low, high) = ([0.1, y, 0.0], [0.2, 0.0, 0.0]);
+        let reason = geomcore::explain(confusion, 1e-12, buffer, count, low, high);
+        let crossed = geomcore::crossing(confusion, 1e-12, buffer, count, low, high);
+        assert_eq!(reason.err(), crossed.err());
+        let stretch = geomcore::stretch(confusion, 1e-12, buffer, count, low, high);
+        assert_eq!(stretch.is_empty(), reason.is_err());
+        reason.map_or_else(|refusal| refusal.number, |_| 0)
+    };
+    assert_eq!(number(0.0, &unfit[..20], 3, 1.0), 5);
+    assert_eq!(number(1e-7, &unfit[..20], 3, 1.0), 8);
+    assert_eq!(number(1e-7, &unfit, usize::MAX, 1.0), 8);
+    assert_eq!(number(1e-7, &unfit, 3, 1.0), 12);
+    assert_eq!(number(1e-7, &unfit, 4, 1.0), 18);
+    assert_eq!(number(1e-7, &fit, 4, 1.0), 17);
+    assert_eq!(number(1e-7, &fit, 4, 0.0), 0);
+}
+
+/// The circle of radius 2 where example 2's cylinder meets a level plane.
+fn circle() -> Vec<u8> {
+    let mut job = example();
+    job.copy_within(
+        geomcore::SURFACE_A..geomcore::SURFACE_B,
+        geomcore::SURFACE_B,
+    );
+    job[geomcore::SURFACE_A..geomcore::SURFACE_B].copy_from_slice(&cylinder());
+    put(&mut job, geomcore::SURFACE_B + 114, &[-3.0, 3.0, -3.0, 3.0]); // the plane's windows
+    put(&mut job, 313, &[0.0, 0.0, 2.0, 0.0]); // the guess
+    job
+}
+
+/// Around a traced line a segment is the reason exactly where the line crosses, and the line up to it does not cross; each reason is there.
+#[test]
+fn explained_where_crossing() {
+    let mut buffer = vec![0.0; geomcore::room(500)];
+    let line = geomcore::trace(&circle(), &mut buffer).unwrap();
+    let numbers = &buffer[..7 * line.count];
+    let mut seen = [0; 4];
+    for k in 0..1300 {
+        let (r, a) = (0.1991 * f64::from(k % 13), 0.05 * f64::from(k));
+        let at = [r * a.cos(), r * a.sin()];
+        let corner = [at[0], at[1], 0.0];
+        let cross =
+            |count| geomcore::crossing(2f64.powi(-20), 1e-12, &buffer, count, corner, corner);
+        let reason = explained(numbers, at);
+        let kind = match reason {
+            Reason::Segment(i) => {
+                assert!(i < 3 || cross(i + 1) == Ok(false));
+                0
+            }
+            Reason::WholeApart(_) => 1,
+            Reason::RunsApart => 2,
+            Reason::NoneMet(_) => 3,
+        };
+        assert_eq!(cross(line.count), Ok(kind == 0));
+        seen[kind] += 1;
+    }
+    assert!(seen.iter().all(|n| *n > 50), "{seen:?}");
+}
+
+/// Each reason in words.
+#[test]
+fn reasons_in_words() {
+    let axes = [0, 1, 2].map(|axis| Reason::WholeApart(axis).to_string());
+    for (text, name) in axes.iter().zip(["x", "y", "z"]) {
+        let apart = "the whole line lies apart from the grown box along ";
+        assert_eq!(text.strip_prefix(apart), Some(name));
+    }
+    assert_eq!(Reason::Segment(41).to_string(), "crosses at segment 41");
+    assert_eq!(
+        Reason::RunsApart.to_string(),
+        "every run of 16 segments lies apart from the grown box"
+    );
+    assert_eq!(
+        Reason::NoneMet(32).to_string(),
+        "no segment of the runs not apart from the grown box meets it (segments in these runs: 32)"
+    );
 }
 
 #[test]
@@ -225,17 +380,13 @@ fn the_column_is_a_coordinate() {
     };
     for apart in 0..3 {
         let mut job = example();
-        let mut put = |at: usize, numbers: [f64; 3]| {
-            for (k, x) in numbers.into_iter().enumerate() {
-                job[at + 8 * k..at + 8 * k + 8].copy_from_slice(&x.to_be_bytes());
-            }
-        };
         for surface in [geomcore::SURFACE_A, geomcore::SURFACE_B] {
             for direction in 1..4 {
-                put(surface + 2 + 24 * direction, unit(apart + direction));
+                let at = surface + 2 + 24 * direction;
+                put(&mut job, at, &unit(apart + direction));
             }
         }
-        put(geomcore::SURFACE_B + 2, unit(apart));
+        put(&mut job, geomcore::SURFACE_B + 2, &unit(apart));
         let mut buffer = vec![0.5; geomcore::room(500)];
         let refused = geomcore::trace(&job, &mut buffer).unwrap_err();
         assert_eq!((refused.number, refused.round), (21, 0));

@@ -73,6 +73,19 @@ fn torus_and_plane() -> Vec<u8> {
     bytes
 }
 
+/// The bits of what is said of a line and a box.
+fn on_box(buffer: &[f64], line: Line, y: f64) -> Vec<u64> {
+    let (count, low, high) = (line.count, [0.0, y, 0.0], [0.7, y, 0.1]);
+    let crossed = geomcore::crossing(1e-7, 1e-12, buffer, count, low, high).unwrap();
+    let reason = geomcore::explain(1e-7, 1e-12, buffer, count, low, high).unwrap();
+    let stretch = geomcore::stretch(1e-7, 1e-12, buffer, count, low, high);
+    assert_eq!(crossed, !stretch.is_empty());
+    let mut bits = vec![u64::from(crossed)];
+    bits.extend(reason.to_string().bytes().map(u64::from));
+    bits.extend(stretch.iter().map(|x| x.to_bits()));
+    bits
+}
+
 /// The bits of every call's answer on that job.
 fn answers(job: &[u8]) -> Vec<u64> {
     let mut bits = vec![
@@ -93,17 +106,7 @@ fn answers(job: &[u8]) -> Vec<u64> {
     bits.extend(buffer.iter().map(|x| x.to_bits()));
     let passed = geomcore::check(job, &buffer, line);
     bits.push(passed.map_or_else(|refused| u64::from(refused.number), |()| 0));
-    let crossed = |y: f64| {
-        geomcore::crossing(
-            1e-7,
-            1e-12,
-            &buffer,
-            line.count,
-            [0.0, y, 0.0],
-            [0.7, y, 0.1],
-        )
-    };
-    bits.extend([0.1, 0.9].map(|y| u64::from(crossed(y).unwrap())));
+    bits.extend([0.1, 0.9].iter().flat_map(|y| on_box(&buffer, line, *y)));
     // a subnormal number in the file, which a mode that flushes to zero would lose
     buffer[0] = 5e-324;
     let mut file = vec![0; geomcore::file_v1_bytes(line.count)];
@@ -216,6 +219,9 @@ fn slices_of_no_length() {
     assert_eq!(geomcore::check(&job, &[], line).unwrap_err().number, 8);
     let crossed = geomcore::crossing(1e-7, 1e-12, &[], 4, [0.0; 3], [0.0; 3]);
     assert_eq!(crossed.unwrap_err().number, 8);
+    let reason = geomcore::explain(1e-7, 1e-12, &[], 4, [0.0; 3], [0.0; 3]);
+    assert_eq!(reason.unwrap_err().number, 8);
+    assert!(geomcore::stretch(1e-7, 1e-12, &[], 4, [0.0; 3], [0.0; 3]).is_empty());
     let written = geomcore::write_v1(&[], line, &mut []);
     assert_eq!(written.unwrap_err().number, 8);
     assert_eq!(geomcore::read_v1(&[], &mut []).unwrap_err().number, 20);
