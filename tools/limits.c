@@ -39,10 +39,16 @@ static void do_check(void) {
     word = geomcore_check(job, sizeof job, buffer, ROOM, word >> 32, word >> 16 & 65535, word >> 8 & 255);
 }
 
+static const double corners[6] = {-1.0, -1.0, -1.0, 1.0, 1.0, 1.0};
+
 static void do_crossing(void) {
-    static const double corners[6] = {-1.0, -1.0, -1.0, 1.0, 1.0, 1.0};
     HERE();
     word = geomcore_crossing(1e-7, 1e-12, buffer, ROOM, word >> 32, corners, 6);
+}
+
+static void do_explain(void) {
+    HERE();
+    word = geomcore_explain(1e-7, 1e-12, buffer, ROOM, word >> 32, corners, 6);
 }
 
 static void do_point(void) {
@@ -93,16 +99,18 @@ static void measure(struct most *m, long index) {
     }
 }
 
+static struct most all[] = {{"geomcore_trace", do_trace, 0, 0, 0, 0},
+                            {"geomcore_check", do_check, 0, 0, 0, 0},
+                            {"geomcore_crossing", do_crossing, 0, 0, 0, 0},
+                            {"geomcore_explain", do_explain, 0, 0, 0, 0},
+                            {"geomcore_point", do_point, 0, 0, 0, 0},
+                            {"geomcore_write_v1", do_write, 0, 0, 0, 0},
+                            {"geomcore_read_v1", do_read, 0, 0, 0, 0}};
+
 int main(void) {
-    struct most all[] = {{"geomcore_trace", do_trace, 0, 0, 0, 0},
-                         {"geomcore_check", do_check, 0, 0, 0, 0},
-                         {"geomcore_crossing", do_crossing, 0, 0, 0, 0},
-                         {"geomcore_point", do_point, 0, 0, 0, 0},
-                         {"geomcore_write_v1", do_write, 0, 0, 0, 0},
-                         {"geomcore_read_v1", do_read, 0, 0, 0, 0}};
     long lines = 0, points = 0, most_points = 0;
     for (long i = 0; fread(job, 1, sizeof job, stdin) == sizeof job; i++) {
-        measure(&all[3], i);
+        measure(&all[4], i);
         measure(&all[0], i);
         if (word & 255)
             continue;
@@ -119,15 +127,17 @@ int main(void) {
         word = line;
         measure(&all[2], i);
         word = line;
-        measure(&all[4], i);
+        measure(&all[3], i);
+        word = line;
         measure(&all[5], i);
+        measure(&all[6], i);
         if (word != line) {
             printf("job %ld: the line that was written and read is another\n", i);
             return 1;
         }
     }
     printf("%ld lines of %ld points, the longest of %ld\n", lines, points, most_points);
-    for (int k = 0; k < 6; k++)
+    for (int k = 0; k < 7; k++)
         printf("%-18s %8ld calls, at most %5ld bytes of stack, %.3f ms (job %ld)\n", all[k].name, all[k].calls, all[k].bytes,
                1e3 * all[k].seconds, all[k].job);
     return 0;
