@@ -3,6 +3,7 @@
 use super::word;
 use crate::capi;
 use crate::intersect::marching::{Traced, segment_meets_box};
+use crate::intersect::pieces::bounding_box;
 use crate::math::boxtree::Aabb;
 use crate::random::Random;
 use crate::{Point3D, Tolerance};
@@ -12,7 +13,7 @@ const WIDTH: usize = 7;
 const RUN: usize = 16;
 
 /// The kinds of call, by name.
-const KINDS: [&str; 13] = [
+const KINDS: [&str; 16] = [
     "walk, box near it",
     "walk, box anywhere",
     "grid, sides touching",
@@ -26,6 +27,9 @@ const KINDS: [&str; 13] = [
     "count or length",
     "tolerance",
     "several at once",
+    "box beyond a side, an edge or a corner",
+    "box in the hollow of a bend",
+    "box at a segment next to a run's end",
 ];
 
 /// One call.
@@ -45,8 +49,11 @@ fn is_fit(x: f64) -> bool {
     x.is_finite() && x.abs() <= 1048576.0
 }
 
-/// The refusal by the scope's order of tests, 5, 8, 12, 18, 17, or 0.
+/// The refusal: corners too few are 8, then the scope's order of tests, 5, 8, 12, 18, 17; or 0.
 fn refusal(c: &Call) -> u64 {
+    if c.corners.len() < 6 {
+        return 8;
+    }
     let count = u128::from(c.count);
     if !(2f64.powi(-40)..=1.0).contains(&c.confusion) || !(0.0..=1.0).contains(&c.angular) {
         return 5;
@@ -77,11 +84,14 @@ fn corners(c: &Call) -> Aabb {
     std::array::from_fn(|k| c.corners[k])
 }
 
-/// The oracle's answer: corners too few are 8, then the refusals, then the Rust.
+/// The box grown by 8000 times confusion.
+fn grown(c: &Call) -> Aabb {
+    let (b, gap) = (corners(c), 8.0 * 1000.0 * c.confusion);
+    std::array::from_fn(|k| if k < 3 { b[k] - gap } else { b[k] + gap })
+}
+
+/// The oracle's answer: the refusals, then the Rust.
 fn answer(c: &Call) -> u64 {
-    if c.corners.len() < 6 {
-        return 8;
-    }
     let number = refusal(c);
     if number != 0 {
         return number;
@@ -110,10 +120,7 @@ enum Kept {
 }
 
 fn kept_out(c: &Call) -> Kept {
-    let gap = 8.0 * 1000.0 * c.confusion;
-    let b = corners(c);
-    let grown: Aabb = std::array::from_fn(|k| if k < 3 { b[k] - gap } else { b[k] + gap });
-    let p = points(c);
+    let (grown, p) = (grown(c), points(c));
     let outside = |k: usize| {
         let of = |x: &Point3D| [x.x, x.y, x.z][k];
         p.iter().all(|x| of(x) < grown[k]) || p.iter().all(|x| of(x) > grown[k + 3])
@@ -200,6 +207,26 @@ fn near(r: &mut Random, p: &[[f64; 3]], spread: f64, size: f64) -> Vec<f64> {
     low.chain(high).collect()
 }
 
+/// The extent of a box on an axis: none, or some eighths.
+fn thickness(r: &mut Random) -> f64 {
+    if r.one_in(2) {
+        0.0
+    } else {
+        r.below(9) as f64 / 8.0
+    }
+}
+
+/// The sides on an axis of a box above or below a coordinate that meets it once grown, `by` places beside it.
+fn beside(at: f64, gap: f64, by: i64, above: bool, thick: f64) -> [f64; 2] {
+    if above {
+        let low = nudged(at + gap, by);
+        [low, low + thick]
+    } else {
+        let high = nudged(at - gap, by);
+        [high - thick, high]
+    }
+}
+
 /// A box one of whose sides, once grown, meets a coordinate of a point, `off` places beside it.
 fn touching(r: &mut Random, p: &[[f64; 3]], gap: f64, off: i64) -> Vec<f64> {
     let at = p[r.below(p.len())];
@@ -211,26 +238,153 @@ fn touching(r: &mut Random, p: &[[f64; 3]], gap: f64, off: i64) -> Vec<f64> {
         } else {
             r.below(2 * off as usize + 1) as i64 - off
         };
-        let thick = if r.one_in(2) {
-            0.0
-        } else {
-            r.below(9) as f64 / 8.0
-        };
-        if r.one_in(2) {
-            b[c] = nudged(at[c] + gap, by);
-            b[c + 3] = b[c].max(b[c] + thick);
-        } else {
-            b[c + 3] = nudged(at[c] - gap, by);
-            b[c] = b[c + 3].min(b[c + 3] - thick);
-        }
+        let thick = thickness(r);
+        [b[c], b[c + 3]] = beside(at[c], gap, by, r.one_in(2), thick);
     }
     b
 }
 
+/// The sets of axes on which a box lies beyond the whole trace's box, a bit for each axis. Each axis is the first of two sets or more.
+const BEYOND: [usize; 8] = [1, 2, 4, 4, 6, 3, 5, 7];
+
+/// A box beyond a side of the whole trace's box, an edge or a corner: once grown it touches that box, or lies a place or some way off.
+fn beyond(r: &mut Random, p: &[[f64; 3]], gap: f64) -> Vec<f64> {
+    let (around, axes) = (bounding_box(p), r.pick(&BEYOND));
+    let mut b = vec![0.0; 6];
+    for c in 0..3 {
+        let (above, thick) = (r.one_in(2), thickness(r));
+        [b[c], b[c + 3]] = if axes >> c & 1 == 0 {
+            let at = r.pick(p)[c];
+            [at - thick, at + thick]
+        } else {
+            let way = if r.one_in(3) {
+                r.signed_unit().abs()
+            } else {
+                0.0
+            };
+            let end = if above {
+                around[c + 3] + way
+            } else {
+                around[c] - way
+            };
+            beside(end, gap, r.below(3) as i64 - 1, above, thick)
+        };
+    }
+    b
+}
+
+/// Two axes, in either order.
+fn two_axes(r: &mut Random) -> [usize; 2] {
+    let first = r.below(3);
+    [first, (first + 1 + r.below(2)) % 3]
+}
+
+/// The directions of a bend's legs in turn, on two axes: an L or stairs, a U, a zigzag.
+const BENDS: [&[[f64; 2]]; 3] = [
+    &[[1.0, 0.0], [0.0, 1.0]],
+    &[[1.0, 0.0], [0.0, 1.0], [-1.0, 0.0], [0.0, 1.0]],
+    &[[1.0, 1.0], [1.0, -1.0]],
+];
+
+/// A polyline from `p` on, of legs of so many segments each.
+fn legs(
+    n: usize,
+    leg: usize,
+    step: f64,
+    bend: &[[f64; 2]],
+    axes: [usize; 2],
+    mut p: [f64; 3],
+) -> Vec<[f64; 3]> {
+    let mut out = Vec::with_capacity(n);
+    for i in 0..n {
+        out.push(p);
+        let along = bend[i / leg % bend.len()];
+        p[axes[0]] += step * along[0];
+        p[axes[1]] += step * along[1];
+    }
+    out
+}
+
+/// A box between the two legs that meet at a corner: off both, or on an axis next to the corner once grown.
+fn hollow(r: &mut Random, [from, corner, to]: [[f64; 3]; 3], gap: f64) -> Vec<f64> {
+    let share = [0; 2].map(|_| 0.25 + 0.65 * r.signed_unit().abs());
+    let mut b = vec![0.0; 6];
+    for c in 0..3 {
+        let way = share[0] * (from[c] - corner[c]) + share[1] * (to[c] - corner[c]);
+        let half = (0.4 * way * r.signed_unit()).abs();
+        let mid = corner[c] + way;
+        [b[c], b[c + 3]] = if r.one_in(6) {
+            beside(corner[c], gap, r.below(3) as i64 - 1, way > 0.0, half)
+        } else {
+            [mid - half, mid + half]
+        };
+    }
+    b
+}
+
+/// A trace of legs, most often as long as a run, that bend, and a box in a bend's hollow: the whole trace's box is not apart from it, and all
+/// runs' boxes are, or no segment meets it.
+fn bent(r: &mut Random, n: usize, gap: f64) -> (Vec<[f64; 3]>, Vec<f64>) {
+    let any = 1 + r.below(40);
+    let leg = r.pick(&[RUN, RUN, RUN, 2 * RUN, n / 2, n / 3, any]);
+    let leg = leg.clamp(1, (n - 1) / 2);
+    let step = f64::max(r.pick(&[0.1, 0.125, 0.05]), 8.0 * gap / leg as f64);
+    let step = if r.one_in(2) { step } else { -step };
+    let (bend, axes) = (r.pick(&BENDS), two_axes(r));
+    let start = grid(r, 1)[0];
+    let p = legs(n, leg, step, bend, axes, start);
+    let corner = leg * (1 + r.below((n - 2) / leg));
+    let ends = [corner - leg, corner, (corner + leg).min(n - 1)];
+    let b = hollow(r, ends.map(|i| p[i]), gap);
+    (p, b)
+}
+
+/// A polyline round a square again and again, so that the box of each run of two segments or more holds the middle. Only the segments named
+/// go through the middle, from a corner to the one across.
+fn square(n: usize, across: &[usize], half: f64, axes: [usize; 2], mid: [f64; 3]) -> Vec<[f64; 3]> {
+    let corners = [[-half, -half], [half, -half], [half, half], [-half, half]];
+    let (mut at, mut out) = (0, Vec::with_capacity(n));
+    for i in 0..n {
+        let mut p = mid;
+        p[axes[0]] += corners[at][0];
+        p[axes[1]] += corners[at][1];
+        out.push(p);
+        at = (at + if across.contains(&i) { 2 } else { 1 }) % 4;
+    }
+    out
+}
+
+/// A trace round a square and a box in its middle, met by a segment next to a run's end, by that and a later one, or by none.
+fn next_to_run_end(r: &mut Random, n: usize, gap: f64) -> (Vec<[f64; 3]>, Vec<f64>) {
+    let ends = ((n + 1) / RUN).max(1);
+    let first = (RUN * (1 + r.below(ends)) + r.below(5) - 2).min(n - 2);
+    let later = first + 1 + r.below(20);
+    let across: &[usize] = match r.below(4) {
+        0 => &[],
+        1 => &[first, later],
+        _ => &[first],
+    };
+    let half = f64::max(r.pick(&[0.1, 0.0625, 0.25]), 2.0 * gap);
+    let (axes, mid) = (two_axes(r), grid(r, 1)[0]);
+    let p = square(n, across, half, axes, mid);
+    // How far the box may reach before it, once grown, touches the square.
+    let room = half - gap;
+    let reach = match r.below(4) {
+        0 => nudged(room, r.below(3) as i64 - 1),
+        1 => 0.0,
+        _ => 0.9 * room * r.signed_unit().abs(),
+    };
+    let (mut low, mut high) = (mid, mid);
+    for c in axes {
+        low[c] -= reach;
+        high[c] += reach;
+    }
+    (p, low.into_iter().chain(high).collect())
+}
+
 /// A walk that goes along an axis to the end of a run and then off it, and a box whose grown side lies a few places past that end.
 fn past_run(r: &mut Random, n: usize, gap: f64) -> (Vec<[f64; 3]>, Vec<f64>) {
-    let axis = r.below(3);
-    let other = (axis + 1 + r.below(2)) % 3;
+    let [axis, other] = two_axes(r);
     let sign = if r.one_in(2) { 1.0 } else { -1.0 };
     let step = r.pick(&[0.1, 0.2, 0.05, 0.0625, 0.07]);
     let end = if r.one_in(3) { n - 1 } else { RUN.min(n - 1) };
@@ -403,6 +557,17 @@ fn shape(r: &mut Random, kind: usize, n: usize, gap: f64) -> (Vec<[f64; 3]>, Vec
             let b = touching(r, &p, gap, 3);
             (p, b)
         }
+        13 => {
+            let p = if r.one_in(2) {
+                walk(r, n, 0.2)
+            } else {
+                grid(r, n)
+            };
+            let b = beyond(r, &p, gap);
+            (p, b)
+        }
+        14 => bent(r, n, gap),
+        15 => next_to_run_end(r, n, gap),
         _ => {
             let p = walk(r, n, 0.2);
             let b = near(r, &p, gap * 1.5 + 0.02, 0.05);
@@ -449,6 +614,7 @@ fn call(r: &mut Random, most: usize) -> Call {
     c
 }
 
+/// The word of the proved crossing.
 fn said(c: &Call) -> u64 {
     capi::crossing(c.confusion, c.angular, &c.buffer, c.count, &c.corners)
 }
@@ -505,6 +671,14 @@ impl Answers {
     }
 }
 
+/// The inputs, to be printed.
+fn inputs(c: &Call) -> String {
+    format!(
+        "confusion {:?} angular {:?} count {} corners {:?} buffer {:?}",
+        c.confusion, c.angular, c.count, c.corners, c.buffer
+    )
+}
+
 /// Compares `count` calls. Returns how many differ.
 pub fn compare(seed: u64, count: u64) -> u64 {
     let mut r = Random::new(seed);
@@ -519,8 +693,9 @@ pub fn compare(seed: u64, count: u64) -> u64 {
             wrong += 1;
             if wrong <= 3 {
                 println!(
-                    "differs: {}: {got} expected {expected}: confusion {:?} count {} corners {:?} buffer {:?}",
-                    KINDS[c.kind], c.confusion, c.count, c.corners, c.buffer
+                    "differs: {}: {got} expected {expected}: {}",
+                    KINDS[c.kind],
+                    inputs(&c)
                 );
             }
         }

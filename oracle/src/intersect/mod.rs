@@ -1,4 +1,4 @@
 //! What is compared of the Rust's `intersect`.
 
 pub(crate) mod marching;
-mod pieces;
+pub(crate) mod pieces;
