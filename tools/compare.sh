@@ -1,6 +1,6 @@
 #!/usr/bin/env bash
 # compare.sh PART SEED COUNT: builds the archives of the proved code and the oracle, and compares them. Ends non-zero on any difference.
-# Parts: fdlibm, solve, surface, patch, marching, crossing, trace, check; modes: what other floating-point modes change (docs/TRUST.md).
+# Parts: fdlibm, solve, surface, patch, marching, crossing, explain, trace, check; modes: what other floating-point modes change (docs/TRUST.md).
 set -eu
 cd "$(dirname "$0")/.."
 if [ $# -ne 3 ]; then

@@ -47,7 +47,7 @@ run() {
     failed=
 }
 
-for part in fdlibm solve surface patch marching crossing trace check; do
+for part in fdlibm solve surface patch marching crossing explain trace check; do
     run "$part" oracle/target/release/compare "$part" "$seed" "$count"
 done
 run file tools/compare_file.sh "$seed" "$count"

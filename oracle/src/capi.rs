@@ -1,37 +1,41 @@
 //! The proved code, through the crate `capi`. A Rattle slice passes to C as a pointer and a length.
 
-unsafe extern "C" {
-    fn geomcore_crossing(
-        confusion: f64,
-        angular: f64,
-        buffer: *const f64,
-        lent: usize,
-        count: u64,
-        corners: *const f64,
-        given: usize,
-    ) -> u64;
+/// Binds the functions that take a crossing's inputs.
+macro_rules! of_a_crossing {
+    ($($(#[$doc:meta])* $name:ident: $export:ident;)*) => {$(
+        unsafe extern "C" {
+            fn $export(
+                confusion: f64,
+                angular: f64,
+                buffer: *const f64,
+                lent: usize,
+                count: u64,
+                corners: *const f64,
+                given: usize,
+            ) -> u64;
+        }
+
+        $(#[$doc])*
+        pub(crate) fn $name(
+            confusion: f64,
+            angular: f64,
+            buffer: &[f64],
+            count: u64,
+            corners: &[f64],
+        ) -> u64 {
+            let (s, lent) = (buffer.as_ptr(), buffer.len());
+            let (t, given) = (corners.as_ptr(), corners.len());
+            // SAFETY: each pointer comes with the length of the slice it was taken from, and the callee keeps neither.
+            unsafe { $export(confusion, angular, s, lent, count, t, given) }
+        }
+    )*};
 }
 
-/// The answer word of the crossing.
-pub(crate) fn crossing(
-    confusion: f64,
-    angular: f64,
-    buffer: &[f64],
-    count: u64,
-    corners: &[f64],
-) -> u64 {
-    // SAFETY: each pointer comes with the length of the slice it was taken from, and the callee keeps neither.
-    unsafe {
-        geomcore_crossing(
-            confusion,
-            angular,
-            buffer.as_ptr(),
-            buffer.len(),
-            count,
-            corners.as_ptr(),
-            corners.len(),
-        )
-    }
+of_a_crossing! {
+    /// The answer word of the crossing.
+    crossing: geomcore_crossing;
+    /// The answer word of the reason for it.
+    explain: geomcore_explain;
 }
 
 unsafe extern "C" {

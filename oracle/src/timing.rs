@@ -103,21 +103,32 @@ fn numbers(rounds: u32) {
     row("atan2", best, 4096);
 }
 
-/// Crossings of traces of 50 to 249 points.
+/// Crossings of traces of 50 to 249 points, and the reasons for them beside the plain reading.
 fn crossings(rounds: u32) {
     let mut r = Random::new(12);
     let calls: Vec<Timed> = (0..200).map(|_| Timed::new(&mut r)).collect();
-    assert!(calls.iter().all(|c| c.ours() == c.oracle()));
-    let all = |f: fn(&Timed) -> u64| {
+    type Word = fn(&Timed) -> u64;
+    let all = |f: Word| {
         black_box(calls.iter().map(f).sum::<u64>());
     };
-    table("crossing, a call");
-    let best = least(rounds, || all(Timed::ours), || all(Timed::oracle));
-    row(
-        "a box near a trace of 50 to 249 points",
-        best,
-        calls.len() as u64,
-    );
+    let both: [(&str, Word, Word); 2] = [
+        ("crossing, a call", Timed::ours, Timed::oracle),
+        (
+            "explain, a call, beside the plain reading",
+            Timed::explained,
+            Timed::reading,
+        ),
+    ];
+    for (title, ours, oracle) in both {
+        assert!(calls.iter().all(|c| ours(c) == oracle(c)));
+        table(title);
+        let best = least(rounds, || all(ours), || all(oracle));
+        row(
+            "a box near a trace of 50 to 249 points",
+            best,
+            calls.len() as u64,
+        );
+    }
 }
 
 /// A job that gives a line, and the line.

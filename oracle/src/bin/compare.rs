@@ -1,18 +1,18 @@
 //! `compare PART SEED COUNT` runs a comparison; `compare record-PART SEED COUNT` writes a fixed list to standard output
 //! (`| tools/lists.py put PART -`).
-//! Parts: fdlibm, solve, surface, patch, marching, crossing, trace, check (lists of all but fdlibm and patch), and trace-alone and
-//! check-alone, which run the oracle without the proved code; modes, what other floating-point modes of the host change; jobs, which writes
-//! job files. Ends with 1 where anything differs, and with 2 on bad usage.
+//! Parts: fdlibm, solve, surface, patch, marching, crossing, explain, trace, check (lists of all but fdlibm, patch and explain, whose answers
+//! stand in the crossing's), and trace-alone and check-alone, which run the oracle without the proved code; modes, what other floating-point
+//! modes of the host change; jobs, which writes job files. Ends with 1 where anything differs, and with 2 on bad usage.
 
 use oracle::compare::{
-    check, crossing, fdlibm, jobs, marching, modes, patch, solve, surface, trace,
+    check, crossing, explain, fdlibm, jobs, marching, modes, patch, solve, surface, trace,
 };
 use std::env;
 use std::process::ExitCode;
 
 fn usage() -> ExitCode {
     eprintln!(
-        "usage: compare fdlibm|patch|[record-]solve|[record-]surface|[record-]marching|[record-]crossing|[record-]trace|[record-]check|trace-alone|check-alone|modes|jobs SEED COUNT"
+        "usage: compare fdlibm|patch|[record-]solve|[record-]surface|[record-]marching|[record-]crossing|explain|[record-]trace|[record-]check|trace-alone|check-alone|modes|jobs SEED COUNT"
     );
     ExitCode::from(2)
 }
@@ -36,6 +36,7 @@ fn main() -> ExitCode {
         "record-marching" => marching::record(seed, count).is_ok(),
         "crossing" => crossing::compare(seed, count) == 0,
         "record-crossing" => crossing::record(seed, count).is_ok(),
+        "explain" => explain::compare(seed, count) == 0,
         "trace" => trace::compare(seed, count) == 0,
         "trace-alone" => trace::alone(seed, count) == 0,
         "record-trace" => trace::record(seed, count).is_ok(),

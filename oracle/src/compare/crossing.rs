@@ -1,6 +1,6 @@
 //! The crossing: generated traces and boxes, the oracle's answers, the comparison and the fixed list.
 
-use super::word;
+use super::{explain, word};
 use crate::capi;
 use crate::intersect::marching::{Traced, segment_meets_box};
 use crate::intersect::pieces::bounding_box;
@@ -9,11 +9,11 @@ use crate::random::Random;
 use crate::{Point3D, Tolerance};
 use std::io::{self, Write};
 
-const WIDTH: usize = 7;
-const RUN: usize = 16;
+pub(super) const WIDTH: usize = 7;
+pub(super) const RUN: usize = 16;
 
 /// The kinds of call, by name.
-const KINDS: [&str; 16] = [
+pub(super) const KINDS: [&str; 16] = [
     "walk, box near it",
     "walk, box anywhere",
     "grid, sides touching",
@@ -33,24 +33,24 @@ const KINDS: [&str; 16] = [
 ];
 
 /// One call.
-struct Call {
-    kind: usize,
-    confusion: f64,
-    angular: f64,
-    buffer: Vec<f64>,
-    count: u64,
-    corners: Vec<f64>,
+pub(super) struct Call {
+    pub(super) kind: usize,
+    pub(super) confusion: f64,
+    pub(super) angular: f64,
+    pub(super) buffer: Vec<f64>,
+    pub(super) count: u64,
+    pub(super) corners: Vec<f64>,
 }
 
 /// The answer word: number + 2^8 (1 if crossed).
-const CROSSED: u64 = 256;
+pub(super) const CROSSED: u64 = 256;
 
 fn is_fit(x: f64) -> bool {
     x.is_finite() && x.abs() <= 1048576.0
 }
 
 /// The refusal: corners too few are 8, then the scope's order of tests, 5, 8, 12, 18, 17; or 0.
-fn refusal(c: &Call) -> u64 {
+pub(super) fn refusal(c: &Call) -> u64 {
     if c.corners.len() < 6 {
         return 8;
     }
@@ -75,7 +75,7 @@ fn refusal(c: &Call) -> u64 {
     0
 }
 
-fn points(c: &Call) -> Vec<Point3D> {
+pub(super) fn points(c: &Call) -> Vec<Point3D> {
     let groups = c.buffer.chunks(WIDTH).take(c.count as usize);
     groups.map(|p| Point3D::new(p[0], p[1], p[2])).collect()
 }
@@ -85,7 +85,7 @@ fn corners(c: &Call) -> Aabb {
 }
 
 /// The box grown by 8000 times confusion.
-fn grown(c: &Call) -> Aabb {
+pub(super) fn grown(c: &Call) -> Aabb {
     let (b, gap) = (corners(c), 8.0 * 1000.0 * c.confusion);
     std::array::from_fn(|k| if k < 3 { b[k] - gap } else { b[k] + gap })
 }
@@ -576,7 +576,7 @@ fn shape(r: &mut Random, kind: usize, n: usize, gap: f64) -> (Vec<[f64; 3]>, Vec
     }
 }
 
-fn call(r: &mut Random, most: usize) -> Call {
+pub(super) fn call(r: &mut Random, most: usize) -> Call {
     let kind = r.below(KINDS.len());
     let confusion = match r.below(4) {
         0 => 2f64.powi(-20),
@@ -615,11 +615,11 @@ fn call(r: &mut Random, most: usize) -> Call {
 }
 
 /// The word of the proved crossing.
-fn said(c: &Call) -> u64 {
+pub(super) fn said(c: &Call) -> u64 {
     capi::crossing(c.confusion, c.angular, &c.buffer, c.count, &c.corners)
 }
 
-/// Calls to time, crossed or not: walks with a box near, each with both sides' answers. Traces of the walk have some hundred points.
+/// Calls to time, crossed or not: walks with a box near, each with both sides' answers and reasons. Traces of the walk have some hundred points.
 pub(crate) struct Timed(Call);
 
 impl Timed {
@@ -643,6 +643,14 @@ impl Timed {
 
     pub(crate) fn oracle(&self) -> u64 {
         answer(&self.0)
+    }
+
+    pub(crate) fn explained(&self) -> u64 {
+        explain::said(&self.0)
+    }
+
+    pub(crate) fn reading(&self) -> u64 {
+        explain::answer(&self.0)
     }
 }
 
@@ -672,7 +680,7 @@ impl Answers {
 }
 
 /// The inputs, to be printed.
-fn inputs(c: &Call) -> String {
+pub(super) fn inputs(c: &Call) -> String {
     format!(
         "confusion {:?} angular {:?} count {} corners {:?} buffer {:?}",
         c.confusion, c.angular, c.count, c.corners, c.buffer
@@ -770,7 +778,7 @@ fn long_wreck() -> Call {
 }
 
 /// Calls that the list holds beside the generated ones: the scope's example 8, the wrecks, each end of a count and of confusion.
-fn chosen() -> Vec<Call> {
+pub(super) fn chosen() -> Vec<Call> {
     let row = [0.0, 0.1, 0.2, 0.3].map(|x| at(x, 0.0));
     let mut calls = vec![
         at_point(&row, at(0.15, 0.005)),

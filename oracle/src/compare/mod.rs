@@ -2,6 +2,7 @@
 
 pub mod check;
 pub mod crossing;
+pub mod explain;
 pub mod fdlibm;
 pub mod jobs;
 pub mod marching;
