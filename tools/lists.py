@@ -14,7 +14,7 @@ from pathlib import Path
 
 STDIN = Path(__file__).resolve().parent / "../crates/replay/stdin"
 # the kinds in the order of their numbers, and the bytes of a record: those before the numbers where it names how many follow
-KINDS = {"sqrt": 16, "tolerance": 24, "fdlibm": 48, "solve": 216, "surface": 240, "crossing": 960, "marching": 488, "job": 402,
+KINDS = {"sqrt": 16, "tolerance": 24, "fdlibm": 48, "solve": 216, "surface": 240, "crossing": 968, "marching": 488, "job": 402,
          "trace": 376, "check": 400, "file": 64}
 FOLLOWED = {"trace", "check", "file"}
 

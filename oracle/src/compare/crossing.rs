@@ -739,8 +739,8 @@ pub fn compare(seed: u64, count: u64) -> u64 {
 /// The most points of a recorded call: three runs.
 const LISTED: usize = 36;
 
-/// Words of a record: confusion, angular, numbers lent, count, corners given, six corners, the answer, three coordinates a point.
-const RECORD: usize = 12 + 3 * LISTED;
+/// Words of a record: confusion, angular, numbers lent, count, corners given, six corners, the answer, the reason, three coordinates a point.
+const RECORD: usize = 13 + 3 * LISTED;
 
 fn at(x: f64, y: f64) -> [f64; 3] {
     [x, y, 0.0]
@@ -777,7 +777,96 @@ fn long_wreck() -> Call {
     at_point(&p, just_past())
 }
 
-/// Calls that the list holds beside the generated ones: the scope's example 8, the wrecks, each end of a count and of confusion.
+/// Boxes beyond each side of a trace's box, some edges and a corner.
+fn beyond_each() -> Vec<Call> {
+    let p = [0.0, 0.1, 0.2, 0.3].map(|x| [x; 3]);
+    let (low, in_it, high) = (-0.1, 0.15, 0.4);
+    let places = [
+        [low, in_it, in_it],
+        [high, in_it, in_it],
+        [in_it, low, in_it],
+        [in_it, high, in_it],
+        [in_it, in_it, low],
+        [in_it, in_it, high],
+        [in_it, high, low],
+        [low, in_it, high],
+        [high, low, in_it],
+        [low, high, low],
+    ];
+    places.map(|to| at_point(&p, to)).into()
+}
+
+/// Bends, as points, segments of a leg, the bend and a place in its hollow: all runs apart, one of them by a place; a box that touches a leg;
+/// and one run alone not apart, none of whose segments meets the box.
+fn bends() -> Vec<Call> {
+    let next = just_past()[0];
+    let of = [
+        (33, RUN, 0, at(0.8, next)),
+        (33, RUN, 0, at(0.8, next.next_down())),
+        (33, RUN, 0, at(0.8, 0.8)),
+        (34, RUN, 0, at(0.8, 0.8)),
+        (16, 8, 0, at(0.4, 0.4)),
+        (17, 8, 0, at(0.4, 0.4)),
+        (18, 8, 0, at(0.4, 0.4)),
+        (33, 8, 0, at(0.4, 0.4)),
+        (33, 8, 0, at(1.2, 1.2)),
+        (36, 11, 1, at(0.55, 0.6)),
+        (33, 8, 2, at(0.8, 0.2)),
+    ];
+    let call = |(n, leg, bend, to)| {
+        let p = legs(n, leg, 0.1, BENDS[bend], [0, 1], at(0.0, 0.0));
+        at_point(&p, to)
+    };
+    of.map(call).into()
+}
+
+/// Boxes in the middle of a square: met by no segment, by the one named alone, or by two.
+fn squares() -> Vec<Call> {
+    let of: [(usize, &[usize]); 18] = [
+        (16, &[]),
+        (17, &[]),
+        (18, &[]),
+        (33, &[]),
+        (34, &[]),
+        (36, &[]),
+        (16, &[14]),
+        (17, &[15]),
+        (18, &[16]),
+        (36, &[0]),
+        (36, &[15]),
+        (36, &[16]),
+        (36, &[17]),
+        (36, &[31]),
+        (36, &[32]),
+        (36, &[34]),
+        (36, &[15, 16]),
+        (36, &[16, 32]),
+    ];
+    let middle = at(0.0, 0.0);
+    let call = |(n, across)| at_point(&square(n, across, 0.1, [0, 1], middle), middle);
+    of.map(call).into()
+}
+
+/// Refusals that meet: 18 before 17, each alone, and corners too few before all.
+fn refused() -> Vec<Call> {
+    let call = |change: fn(&mut Call)| {
+        let mut c = at_point(&[0.0, 0.1, 0.2, 0.3].map(|x| at(x, 0.0)), at(0.15, 0.0));
+        change(&mut c);
+        c
+    };
+    vec![
+        call(|c| c.buffer[WIDTH * 3 + 2] = f64::NAN),
+        call(|c| c.corners[5] = f64::INFINITY),
+        call(|c| c.corners[0] = 0.2),
+        call(|c| (c.buffer[0], c.corners[0]) = (2e6, f64::NAN)),
+        call(|c| (c.confusion, c.buffer[0]) = (2.0, f64::NAN)),
+        call(|c| c.corners.truncate(5)),
+        call(|c| (c.corners, c.confusion) = (vec![0.0; 5], f64::NAN)),
+    ]
+}
+
+/// Calls that the list holds beside the generated ones: the scope's example 8, the wrecks, each end of a count and of confusion, and what
+/// gives each reason and refusal.
 pub(super) fn chosen() -> Vec<Call> {
     let row = [0.0, 0.1, 0.2, 0.3].map(|x| at(x, 0.0));
     let mut calls = vec![
@@ -797,6 +886,10 @@ pub(super) fn chosen() -> Vec<Call> {
         c.confusion = confusion;
         calls.push(c);
     }
+    calls.extend(beyond_each());
+    calls.extend(bends());
+    calls.extend(squares());
+    calls.extend(refused());
     calls
 }
 
@@ -822,9 +915,10 @@ pub fn record(seed: u64, count: u64) -> io::Result<()> {
             words[5 + k] = word(*x);
         }
         words[11] = answer(&c);
+        words[12] = explain::answer(&c);
         for (i, group) in c.buffer.chunks(WIDTH).enumerate() {
             for (k, x) in group.iter().take(3).enumerate() {
-                words[12 + 3 * i + k] = word(*x);
+                words[13 + 3 * i + k] = word(*x);
             }
         }
         for w in words {

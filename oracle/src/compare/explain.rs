@@ -212,11 +212,27 @@ mod tests {
     use super::super::crossing::chosen;
     use super::*;
 
+    fn words() -> Vec<u64> {
+        chosen().iter().map(answer).collect()
+    }
+
     #[test]
     fn example_8_is_met_by_its_second_segment_and_apart_on_y() {
-        let words: Vec<u64> = chosen().iter().map(answer).collect();
         let expected = [reason(SEGMENT, 1), reason(WHOLE_APART, 1)];
-        assert_eq!(words[..2], expected);
+        assert_eq!(words()[..2], expected);
+    }
+
+    #[test]
+    fn the_chosen_calls_give_each_reason_and_refusal() {
+        let of = |kind: u64| move |value: usize| reason(kind, value);
+        let mut wanted = vec![5, 8, 12, 17, 18, reason(RUNS_APART, 0)];
+        wanted.extend([0, 1, 2].map(of(WHOLE_APART)));
+        wanted.extend([0, 14, 15, 16, 17, 31, 32, 34].map(of(SEGMENT)));
+        wanted.extend([15, 16, 32, 35].map(of(NONE_MET)));
+        let words = words();
+        for word in wanted {
+            assert!(words.contains(&word), "{word:x}");
+        }
     }
 
     #[test]
