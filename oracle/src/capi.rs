@@ -1,8 +1,8 @@
 //! The proved code, through the crate `capi`. A Rattle slice passes to C as a pointer and a length.
 
-/// Binds the functions that take a crossing's inputs.
+/// Binds the functions that take a crossing's inputs, and an output of so many numbers where one is named.
 macro_rules! of_a_crossing {
-    ($($(#[$doc:meta])* $name:ident: $export:ident;)*) => {$(
+    ($($(#[$doc:meta])* $name:ident: $export:ident $(, $output:ident of $room:expr)?;)*) => {$(
         unsafe extern "C" {
             fn $export(
                 confusion: f64,
@@ -12,6 +12,7 @@ macro_rules! of_a_crossing {
                 count: u64,
                 corners: *const f64,
                 given: usize,
+                $($output: *mut f64, room: usize,)?
             ) -> u64;
         }
 
@@ -22,14 +23,16 @@ macro_rules! of_a_crossing {
             buffer: &[f64],
             count: u64,
             corners: &[f64],
+            $($output: &mut [f64; $room],)?
         ) -> u64 {
             let (s, lent) = (buffer.as_ptr(), buffer.len());
             let (t, given) = (corners.as_ptr(), corners.len());
             // SAFETY: each pointer comes with the length of the slice it was taken from, and the callee keeps neither.
-            unsafe { $export(confusion, angular, s, lent, count, t, given) }
+            unsafe { $export(confusion, angular, s, lent, count, t, given $(, $output.as_mut_ptr(), $room)?) }
         }
     )*};
 }
+pub(crate) use of_a_crossing;
 
 of_a_crossing! {
     /// The answer word of the crossing.

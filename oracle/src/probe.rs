@@ -54,6 +54,11 @@ pub(crate) fn derivatives(kind: u64, numbers: &[f64], u: f64, v: f64, output: &m
     surface(1, kind, numbers, [u, v], output)
 }
 
+crate::capi::of_a_crossing! {
+    /// How many numbers the stretch of a crossing's first segment has; they stand at the front of the output then.
+    stretch: probe_stretch, output of 14;
+}
+
 /// A step of the walk.
 #[derive(Clone, Copy, PartialEq, Debug)]
 pub(crate) enum Step {

@@ -1,13 +1,16 @@
-//! Why a trace crosses a box or does not (A6): each reason stated by itself over the Rust's boxes, and the comparison.
+//! Why a trace crosses a box or does not (A6): each reason stated by itself over the Rust's boxes, the stretch of the trace that goes with
+//! it, and the comparison.
 
 use super::crossing::{
-    CROSSED, Call, KINDS, RUN, call, grown, inputs, points, refusal, said as crossing,
+    CROSSED, Call, KINDS, RUN, WIDTH, call, grown, inputs, points, refusal, said as crossing,
 };
+use super::{UNTOUCHED, word};
 use crate::Point3D;
 use crate::capi;
 use crate::intersect::marching::segment_meets_box;
 use crate::intersect::pieces::bounding_box;
 use crate::math::boxtree::{Aabb, boxes_apart};
+use crate::probe;
 use crate::random::Random;
 
 /// The kinds of reason; 0 stands beside a refusal.
@@ -111,14 +114,41 @@ pub(super) fn said(c: &Call) -> u64 {
     capi::explain(c.confusion, c.angular, &c.buffer, c.count, &c.corners)
 }
 
-/// What is wrong with our answer: it is not the reading's, or does not go with our crossing's.
+/// The numbers of two points.
+const TWO: usize = 2 * WIDTH;
+
+/// How many numbers the stretch has that goes with a word, and the output after it: segment i is points i and i + 1 of the buffer.
+fn stretch(c: &Call, word: u64) -> (u64, [f64; TWO]) {
+    let (i, mut out) = ((word >> 32) as usize, [UNTOUCHED; TWO]);
+    let points: &[f64] = match kind_of(word) {
+        SEGMENT => &c.buffer[WIDTH * i..WIDTH * (i + 2)],
+        _ => &[],
+    };
+    out[..points.len()].copy_from_slice(points);
+    (points.len() as u64, out)
+}
+
+/// The same of the proved call.
+fn stretch_said(c: &Call) -> (u64, [f64; TWO]) {
+    let mut out = [UNTOUCHED; TWO];
+    let (buffer, corners) = (&c.buffer, &c.corners);
+    let said = probe::stretch(c.confusion, c.angular, buffer, c.count, corners, &mut out);
+    (said, out)
+}
+
+/// What is wrong with our answer: it is not the reading's, does not go with our crossing's, or comes with another stretch.
 fn difference(c: &Call, expected: u64) -> Option<String> {
     let (got, crossed) = (said(c), crossing(c));
     if got != expected {
         return Some(format!("{got:x} expected {expected:x}"));
     }
     let same = (kind_of(got) == SEGMENT) == (crossed == CROSSED) && got & 0xff == crossed & 0xff;
-    (!same).then(|| format!("{got:x} where the crossing is {crossed:x}"))
+    if !same {
+        return Some(format!("{got:x} where the crossing is {crossed:x}"));
+    }
+    let (expected, got) = (stretch(c, expected), stretch_said(c));
+    let same = got.0 == expected.0 && got.1.map(word) == expected.1.map(word);
+    (!same).then(|| format!("stretch {got:?} expected {expected:?}"))
 }
 
 /// How calls were answered.
