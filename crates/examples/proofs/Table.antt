@@ -32,5 +32,6 @@ table =
       row6 = (refl, λ right. refl);
       row7 = (λ a b. refl, λ a b. refl);
       row8 = (λ p t. refl, λ p t. refl);
+      row8_explained = (λ p t. (refl, refl), λ p t. (refl, refl));
       row9 = (λ p. (refl, refl), λ p. (refl, refl, refl, refl));
     }

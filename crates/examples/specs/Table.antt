@@ -14,6 +14,8 @@ use Rattle.marching.specs.declared.leaving.Exit.{Exit}
 use Rattle.marching.specs.Leaving.{leaving_of}
 use Rattle.boxes.specs.declared.boxtree.Aabb.{Aabb}
 use Rattle.boxes.specs.Crossing.{crossing_of}
+use Rattle.boxes.specs.declared.explain.Reason.TheVariants.{Segment, WholeApart}
+use Rattle.boxes.specs.Explain.{explain_of, stretch_of}
 use Rattle.geometry.specs.declared.vector.Vector3D.{Vector3D}
 use Rattle.geometry.specs.declared.frame.Frame3D.{Frame3D}
 use Rattle.geometry.specs.Vector.{vector_of, zero_vector}
@@ -92,11 +94,16 @@ parameters u1 v1 u2 v2 = record { u1 = u1; v1 = v1; u2 = u2; v2 = v2 }
 abbrev pub axis_point : Float → (ℕ → Float) → List Float
 axis_point x p = x ∷ positive_zero ∷ positive_zero ∷ p 0 ∷ p 1 ∷ p 2 ∷ p 3 ∷ []
 
+-- (0.1,0,0) and (0.2,0,0)
+abbrev pub second_point : (ℕ → Float) → List Float
+second_point = axis_point (bits 0x3fb9_9999_9999_999a)
+
+abbrev pub third_point : (ℕ → Float) → List Float
+third_point = axis_point (bits 0x3fc9_9999_9999_999a)
+
 -- "Points (0,0,0), (0.1,0,0), (0.2,0,0), (0.3,0,0)"
 abbrev pub four_points : (ℕ → ℕ → Float) → List Float
-four_points p =
-    axis_point positive_zero (p 0) ++ axis_point (bits 0x3fb9_9999_9999_999a) (p 1) ++ axis_point (bits 0x3fc9_9999_9999_999a) (p 2)
-    ++ axis_point (bits 0x3fd3_3333_3333_3333) (p 3)
+four_points p = axis_point positive_zero (p 0) ++ second_point (p 1) ++ third_point (p 2) ++ axis_point (bits 0x3fd3_3333_3333_3333) (p 3)
 
 -- "confusion 2^-20, angular 1e-12", whatever the parametric tolerance
 abbrev pub confusion20 : Float → Tolerance
@@ -105,6 +112,14 @@ confusion20 t = record { confusion = bits 0x3eb0_0000_0000_0000; angular = 1e-12
 -- "the box that is the point"
 abbrev pub box_at : Float → Float → Float → Aabb
 box_at x y z = record { low = record { x = x; y = y; z = z }; high = record { x = x; y = y; z = z } }
+
+-- "(0.15, 0.005, 0)"
+abbrev pub box_crossed : Aabb
+box_crossed = box_at (bits 0x3fc3_3333_3333_3333) (bits 0x3f74_7ae1_47ae_147b) positive_zero
+
+-- "(0.15, 0.01, 0)"
+abbrev pub box_clear : Aabb
+box_clear = box_at (bits 0x3fc3_3333_3333_3333) (bits 0x3f84_7ae1_47ae_147b) positive_zero
 
 -- the frame with axes (1,0,0), (0,1,0), (0,0,1) whose origin is 0 moved by a vector
 abbrev pub moved_frame : Vector3D → Frame3D
@@ -165,10 +180,16 @@ pub record Table : Type 0 where
   -- "Points (0,0,0), (0.1,0,0), (0.2,0,0), (0.3,0,0), confusion 2^-20, angular 1e-12: the box that is the point (0.15, 0.005, 0) is
   -- crossed, (0.15, 0.01, 0) is not."
   pub row8 :
+      ((p : ℕ → ℕ → Float) (t : Float) → crossing_of (confusion20 t) (four_points p) 4 box_crossed ≡ Ok true)
+      × ((p : ℕ → ℕ → Float) (t : Float) → crossing_of (confusion20 t) (four_points p) 4 box_clear ≡ Ok false)
+  -- 02, A6, of row 8: the first box is crossed at segment 1, whose points are the second and the third; from the second box, grown, the whole
+  -- trace's box is apart, on axis 1 first
+  pub row8_explained :
       ((p : ℕ → ℕ → Float) (t : Float)
-      → crossing_of (confusion20 t) (four_points p) 4 (box_at (bits 0x3fc3_3333_3333_3333) (bits 0x3f74_7ae1_47ae_147b) positive_zero) ≡ Ok true)
+      → (explain_of (confusion20 t) (four_points p) 4 box_crossed ≡ Ok (Segment 1))
+      × (stretch_of (confusion20 t) (four_points p) 4 box_crossed ≡ second_point (p 1) ++ third_point (p 2)))
       × ((p : ℕ → ℕ → Float) (t : Float)
-      → crossing_of (confusion20 t) (four_points p) 4 (box_at (bits 0x3fc3_3333_3333_3333) (bits 0x3f84_7ae1_47ae_147b) positive_zero) ≡ Ok false)
+      → (explain_of (confusion20 t) (four_points p) 4 box_clear ≡ Ok (WholeApart 1)) × (stretch_of (confusion20 t) (four_points p) 4 box_clear ≡ []))
   -- "A and B the same unit-frame plane, windows -1 to 1, no marks, default tolerance, cap 2, 35 numbers lent, guess all 0: 10. B's origin
   -- moved to z = 1": 02, A2: "the new number, in round 0"; A3: at column 2 (and the 35 numbers are positive zero afterwards)
   pub row9 :

@@ -1,4 +1,4 @@
-use Rattle.std.specs.Prelude.{Ok}
+use Rattle.std.specs.Prelude.{None, Ok}
 use Rattle.std.proofs.Common.{rules}
 use mathlib.Core.Path.{◌≡◌, sym, ap, ◌∙◌}
 use Prim.Native.Nat.{ℕ, ◌+◌, ◌-◌, ◌*◌}
@@ -26,7 +26,9 @@ pub returns-in_default : goal.returns-in_default
 unfolding stretch_of
 returns-in_default c =
     elim c.in_default.branch [
-      | in_default-via-in-Ok+in_default w ↦ search rules
+      | in_default-via-in-Ok+in_default w ↦
+        let none : segment_of (Ok w.in_default.field-0) ≡ None = search rules in
+        rw (← c.explain.ensures, w.in_default.is, none)
       | in_default-via-in_default w ↦ rw (← c.explain.ensures, w.in_default.is)
     ]
 
