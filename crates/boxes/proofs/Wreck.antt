@@ -12,7 +12,9 @@ use Rattle.geometry.specs.declared.tolerance.Tolerance.{Tolerance}
 use Rattle.boxes.specs.declared.boxtree.Aabb.{Aabb}
 use Rattle.boxes.specs.Bounds.{boxes_apart, bounds_of}
 use Rattle.boxes.specs.Crosses.{grown_of, segment_meets}
+use Rattle.boxes.specs.declared.explain.Reason.TheVariants.{WholeApart, NoneMet}
 use Rattle.boxes.specs.Crossing.{crossing_of}
+use Rattle.boxes.specs.Explain.{explain_of}
 use Rattle.boxes.proofs.Computing.{computing}
 
 abbrev pub at : Float → Float → List Float
@@ -35,10 +37,11 @@ short =
     at (bits 0xbfd3_3333_3333_3333) (bits 0) ++ at (bits 0xbfc9_9999_9999_999a) (bits 0) ++ at (bits 0xbfb9_9999_9999_999a) (bits 0)
     ++ at (bits 0) (bits 0)
 
--- the whole trace's box keeps out what the segment test accepts at the last segment
+-- the whole trace's box keeps out what the segment test accepts at the last segment: it is apart on axis 0
 pub whole_keeps_out : (crossing_of tol short 4 box ≡ (Ok false)) × (segment_meets short (grown_of box tol.confusion) 2 ≡ true)
+    × (explain_of tol short 4 box ≡ Ok (WholeApart 0))
 unfolding computing
-whole_keeps_out = (refl, refl)
+whole_keeps_out = (refl, refl, refl)
 
 -- x = -1.6, -1.5 and on to 0 at point 16, where the first run ends; then (0, 0.1, 0) and (0.1, 0.1, 0)
 abbrev pub long : List Float
@@ -51,9 +54,11 @@ long =
     ++ at (bits 0xbfb9_9999_9999_999a) (bits 0) ++ at (bits 0) (bits 0) ++ at (bits 0) (bits 0x3fb9_9999_9999_999a)
     ++ at (bits 0x3fb9_9999_9999_999a) (bits 0x3fb9_9999_9999_999a)
 
--- the first run's box keeps out what the segment test accepts at its last segment, though the whole trace's box is not apart
+-- the first run's box keeps out what the segment test accepts at its last segment, though the whole trace's box is not apart; so
+-- the two segments of the second run are counted, and none of the first
 pub run_keeps_out :
     (crossing_of tol long 19 box ≡ (Ok false)) × (segment_meets long (grown_of box tol.confusion) 15 ≡ true)
     × (boxes_apart (bounds_of long 19) (grown_of box tol.confusion) ≡ false)
+    × (explain_of tol long 19 box ≡ Ok (NoneMet 2))
 unfolding computing
-run_keeps_out = (refl, refl, refl)
+run_keeps_out = (refl, refl, refl, refl)

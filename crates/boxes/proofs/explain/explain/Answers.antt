@@ -1,6 +1,7 @@
-use Rattle.std.proofs.Common.{◌≡◌, Err, sym, ◌∙◌, rules}
+use Rattle.std.proofs.Common.{◌≡◌, Ok, Err, sym, ap, ◌∙◌, rules}
 use native.Mathlib.Omega.{arith}
-use Rattle.boxes.specs.Explain.{explain_of}
+use Rattle.boxes.specs.Crosses.{grown_of}
+use Rattle.boxes.specs.Explain.{trace_reason, explain_of}
 use Rattle.boxes.proofs.Counted.{tests_fit}
 use Rattle.boxes.proofs.explain.explain.Goals as goal
 
@@ -19,4 +20,8 @@ returns-in_err-crossing_fitness c =
 
 pub returns : goal.returns
 unfolding explain_of
-returns c = rw (← c.crossing_fitness.ensures, c.in_ok-crossing_fitness.was, ← c.grown.ensures, ← c.trace_reason.ensures)
+returns c =
+    let g = c.args in
+    let reason : c.trace_reason.result ≡ trace_reason g.points.now g.count (grown_of g.b g.tol.confusion) =
+    c.trace_reason.ensures ∙ ap (trace_reason g.points.now g.count) c.grown.ensures in
+    rw (← c.crossing_fitness.ensures, c.in_ok-crossing_fitness.was) (ap Ok reason)

@@ -27,8 +27,8 @@ unfolding stretch_of
 returns-in_default c =
     elim c.in_default.branch [
       | in_default-via-in-Ok+in_default w ↦
-        let none : segment_of (Ok w.in_default.field-0) ≡ None = search rules in
-        rw (← c.explain.ensures, w.in_default.is, none)
+          let none : segment_of (Ok w.in_default.field-0) ≡ None = search rules in
+          rw (← c.explain.ensures, w.in_default.is, none)
       | in_default-via-in_default w ↦ rw (← c.explain.ensures, w.in_default.is)
     ]
 
