@@ -7,6 +7,7 @@
 
 mod call;
 pub mod steps;
+pub mod stretch;
 pub mod surface;
 
 ghost use Rattle.std.specs.Prelude.{◌≡◌, ◌+◌, ◌*◌, ◌<◌, ◌≤◌, length};
