@@ -6,6 +6,7 @@
 ghost use Rattle.std.specs.Prelude.{◌≡◌};
 ghost use Rattle.probe.specs.Probe.{probed, probe_of};
 ghost use Rattle.probe.specs.Steps.{probe_step};
+ghost use Rattle.probe.specs.Stretch.{probe_stretch};
 ghost use Rattle.probe.specs.Surface.{probe_surface};
 
 // The solver of so many unknowns: 2, 3 or 4. Any other number is answered like a slice too short.
@@ -40,4 +41,20 @@ pub extern "C" fn probe_surface(
     ensures { probed result output.new ≡ probe_surface what kind numbers.now u v output.old }
 {
     probe::surface::probe_surface(what, kind, numbers, u, v, output)
+}
+
+// The stretch of a trace of `count` points that crosses the box whose corners are given, low x, y, z, then high: 0, or 14 for its two
+// points. Fewer than six corners and an output too short are answered 0, and the output is as it was.
+#[unsafe(no_mangle)]
+pub extern "C" fn probe_stretch(
+    confusion: f64,
+    angular: f64,
+    buffer: &[f64],
+    count: u64,
+    corners: &[f64],
+    out: &mut [f64],
+) -> u64
+    ensures { probed result out.new ≡ probe_stretch confusion angular buffer.now count corners.now out.old }
+{
+    probe::stretch::probe_stretch(confusion, angular, buffer, count, corners, out)
 }
