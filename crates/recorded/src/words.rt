@@ -7,8 +7,8 @@ ghost use Rattle.recorded.specs.Words.{word_at, at_most_of, loaded_of, differ_of
 use std::io;
 use std::io::{ErrorKind, Read};
 
-// Room for a record of any kind: 960 bytes, and 185 numbers behind them.
-pub const RECORD: usize = 2440;
+// Room for a record of any kind: 968 bytes, and 185 numbers behind them.
+pub const RECORD: usize = 2448;
 
 // Fills the bytes from the input. False where there are fewer.
 pub fn next<R: Read>(input: &mut R, bytes: &mut [u8]) -> io::Result<bool>
