@@ -13,7 +13,7 @@ pub trait Compared {
 
     // The bytes of a record; of traces, checks and files those before the words that follow.
     fn size() -> usize
-        ensures { result ≤ 960 };
+        ensures { result ≤ 968 };
 
     // How many numbers stand behind them at most; the second word says how many.
     fn most() -> usize

@@ -12,7 +12,7 @@ fn read<R: Read>(
     input: &mut R,
     bytes: &mut [u8; RECORD],
 ) -> io::Result<bool>
-    requires { (size ≤ 960) × (most ≤ 185) }
+    requires { (size ≤ 968) × (most ≤ 185) }
 {
     if !next(input, &mut bytes[..size])? {
         return Ok(false);
@@ -29,7 +29,7 @@ pub fn for_each_record<R: Read, F: FnMut(&[u8; RECORD]) -> io::Result<()>>(
     input: &mut R,
     mut each: F,
 ) -> io::Result<()>
-    requires room { (size ≤ 960) × (most ≤ 185) }
+    requires room { (size ≤ 968) × (most ≤ 185) }
     requires callable { F.IsAlwaysCallable each }
 {
     for _ in 0..records {
