@@ -153,7 +153,8 @@ module _ (l : List Float) (first : ℕ) (h : first < length l / width) where
   unfolding run_from
   run_count =
       let left = length-drop (width * first) l in
-      ap (λ (k : ℕ). k / width) (length-take most rest ∙ (let e : min most (length rest) ≡ min (length rest) most = omega arith in e)) ∙ run_size (length rest) (length l / width - first) (omega arith)
+      let turned : min most (length rest) ≡ min (length rest) most = omega arith in
+      ap (λ (k : ℕ). k / width) (length-take most rest ∙ turned) ∙ run_size (length rest) (length l / width - first) (omega arith)
 
   run_held : width * run_points (length l / width) first ≤ most
   run_held = let s = run_least (length l / width - first) (omega arith) in omega arith

@@ -35,6 +35,7 @@ fn unmet_reason(near: usize) -> Reason
 }
 
 // What the runs say, one after the other: the first segment that meets the box, or how many lie in runs that are not apart.
+// Kept (3): as `marching::some_run`.
 fn runs_reason(points: &[f64], b: Aabb) -> Reason
     ensures { result ≡ runs_reason points.now (length points.now / width) b }
 {
@@ -53,6 +54,7 @@ fn runs_reason(points: &[f64], b: Aabb) -> Reason
 }
 
 // Why the trace crosses the grown box, or why not.
+// Kept (6): the count is the caller's claim, as in `marching::crosses`.
 fn trace_reason(points: &[f64], count: usize, grown: Aabb) -> Reason
     requires { (0 < count) × (width * count ≤ length points.now) }
     ensures { result ≡ trace_reason points.now count grown }

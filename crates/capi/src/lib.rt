@@ -280,6 +280,7 @@ pub fn geomcore_explain(
 ) -> u64
     ensures { ExplainWord confusion angular buffer.now count corners.now result }
 {
+    // Kept (1): as in `geomcore_crossing`.
     let Some(b) = box_given(corners) else {
         return Refusal::Lent.number();
     };

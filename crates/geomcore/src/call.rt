@@ -1,8 +1,8 @@
 ghost use Rattle.trace_file.specs.Layout.{version1, width1};
 ghost use Rattle.passing.specs.Promises.{PointPromise, TracePromise, CheckPromise, CrossingPromise, ExplainPromise, StretchPromise, WriteV1Promise, ReadPromise};
 
-use boxes::explain::Reason;
 use boxes::Aabb;
+use boxes::explain::Reason;
 use geometry::{Point3D, Tolerance};
 use groups::{Claim, Traced};
 use patch::{Parameters, Patch};

@@ -1,5 +1,5 @@
-//! The public calls: a point of a surface, the line where two surfaces meet, the check of such a line, whether it crosses a box, and the
-//! file that a line is passed on in.
+//! The public calls: a point of a surface, the line where two surfaces meet, the check of such a line, whether and why it
+//! crosses a box, and the file that a line is passed on in.
 //!
 //! A surface comes as a `patch::Patch`: one of five kinds with its frame and sizes, and the windows and turn marks of its two parameters.
 //! Lengths are in kilometres, angles in radians. No call has a condition on its input: what is unfit is refused under a fixed number

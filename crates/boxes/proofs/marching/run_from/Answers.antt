@@ -16,6 +16,7 @@ returns c =
     let l = c.args.points.now in
     let rest = drop (width * c.args.first) l in
     let most = width * (run_length + 1) in
+    let turned : min (length rest) most ≡ min most (length rest) = omega arith in
     let part = part_from (width * c.args.first) l in
     ap (take c.min.result) part
-    ∙ ap (λ (k : ℕ). take k rest) (c.min.ensures ∙ ap (λ (r : List Float). min (length r) most) part ∙ (let e : min (length rest) most ≡ min most (length rest) = omega arith in e)) ∙ take_min most rest
+    ∙ ap (λ (k : ℕ). take k rest) (c.min.ensures ∙ ap (λ (r : List Float). min (length r) most) part ∙ turned) ∙ take_min most rest

@@ -23,13 +23,15 @@ run_crosses-requires c =
 pub returns-then-run_crosses : goal.returns-then-run_crosses
 returns-then-run_crosses c =
     let l = c.args.points.now in let first = c.loop-first.first in let t = c.loop-first-test.true in
-    let e : run_at l (length l / width) c.args.b (first / run_length) ≡ c.run_crosses.result = run_handed l first c.args.b c.loop-first.invariant.1 (omega arith) (rw (← c.run_from.ensures) c.run_crosses.ensures) in
+    let e : run_at l (length l / width) c.args.b (first / run_length) ≡ c.run_crosses.result =
+    run_handed l first c.args.b c.loop-first.invariant.1 (omega arith) (rw (← c.run_from.ensures) c.run_crosses.ensures) in
     any_leave (run_at l (length l / width) c.args.b) (first / run_length) (runs_of (length l / width)) (omega arith) (e ∙ c.if-run_crosses.true) c.loop-first.invariant.0
 
 pub loop-first-preserved : goal.loop-first-preserved
 loop-first-preserved c =
     let l = c.args.points.now in let first = c.loop-first.first in let t = c.loop-first-test.true in
-    let e : run_at l (length l / width) c.args.b (first / run_length) ≡ c.run_crosses.result = run_handed l first c.args.b c.loop-first.invariant.1 (omega arith) (rw (← c.run_from.ensures) c.run_crosses.ensures) in
+    let e : run_at l (length l / width) c.args.b (first / run_length) ≡ c.run_crosses.result =
+    run_handed l first c.args.b c.loop-first.invariant.1 (omega arith) (rw (← c.run_from.ensures) c.run_crosses.ensures) in
     let k : (first + run_length) / run_length ≡ first / run_length + 1 = omega arith in (
       ap (λ (j : ℕ). any_in (run_at l (length l / width) c.args.b) j (runs_of (length l / width))) k
           ∙ any_again (run_at l (length l / width) c.args.b) (first / run_length) (runs_of (length l / width)) (omega arith) (e ∙ c.if-run_crosses.false) c.loop-first.invariant.0,
@@ -40,7 +42,8 @@ loop-first-preserved c =
 pub returns-else-run_crosses : goal.returns-else-run_crosses
 returns-else-run_crosses c =
     let l = c.args.points.now in let first = c.loop-first.first in let t = c.loop-first-test.true in
-    let e : run_at l (length l / width) c.args.b (first / run_length) ≡ c.run_crosses.result = run_handed l first c.args.b c.loop-first.invariant.1 (omega arith) (rw (← c.run_from.ensures) c.run_crosses.ensures) in
+    let e : run_at l (length l / width) c.args.b (first / run_length) ≡ c.run_crosses.result =
+    run_handed l first c.args.b c.loop-first.invariant.1 (omega arith) (rw (← c.run_from.ensures) c.run_crosses.ensures) in
     any_done (run_at l (length l / width) c.args.b) (first / run_length + 1) (runs_of (length l / width)) (omega arith)
     (any_again (run_at l (length l / width) c.args.b) (first / run_length) (runs_of (length l / width)) (omega arith) (e ∙ c.if-run_crosses.false) c.loop-first.invariant.0)
 
