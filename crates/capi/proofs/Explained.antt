@@ -1,14 +1,11 @@
 -- The explaining call's word holds its parts apart, and agrees with the crossing's.
-use Rattle.std.specs.Prelude.{Ok, Err}
+use Rattle.std.specs.Prelude.{Some, None, Ok, Err}
 use mathlib.Core.Path.{◌≡◌, refl, sym, ap, ◌∙◌}
-use mathlib.Core.Bool.{Bool, true, false}
+use mathlib.Core.Bool.{true, false}
 use mathlib.Core.List.{List}
-use Prim.Native.Nat.{ℕ, ◌+◌, ◌*◌, ◌/◌, ◌%◌, ◌^◌, ◌<◌}
+use Prim.Native.Nat.{ℕ, ◌+◌, ◌*◌, ◌/◌, ◌%◌, ◌<◌}
 use native.Mathlib.Omega.{arith}
-use lib.Dec.{leb}
 use lib.Ieee.{Float}
-use lib.ListN.{length}
-use Rattle.refusal.specs.declared.Refusal.{Refusal}
 use Rattle.refusal.specs.declared.Refusal.TheVariants.{Lent}
 use Rattle.refusal.specs.Refusal.{number_of}
 use Rattle.geometry.specs.declared.tolerance.Tolerance.{Tolerance}
@@ -21,9 +18,9 @@ use Rattle.boxes.specs.Explain.{Explained}
 use Rattle.boxes.specs.Explain.{value_of}
 use Rattle.passing.specs.Promises.{ExplainPromise}
 use Rattle.capi.specs.Answer.{number_in, crossed_in, kind_in}
-use Rattle.capi.specs.Crossing.{crossed_word, box_in, tolerance_in, crossing_answer}
-use Rattle.capi.specs.Explain.{kind_of, reason_word, value_beside, explained_word, explain_answer, ExplainWord}
-use Rattle.capi.proofs.Words.{number_fits}
+use Rattle.capi.specs.Crossing.{crossed_word, box_given, tolerance_in, crossing_answer}
+use Rattle.capi.specs.Explain.{kind_of, reason_word, value_beside, explained_word, explain_answer, ReasonTold, ExplainWord}
+use Rattle.capi.proofs.Words.{number_fits, unlike_zero}
 
 -- the value beside a reason has room in the word
 pub value_fits : {tol : Tolerance} {l : List Float} {count : ℕ} {b : Aabb} {r : Explained} → ExplainPromise tol l count b r → value_beside r < 4294967296
@@ -34,10 +31,11 @@ value_fits {r = r} p = go r refl
     go (Err q) e = omega arith
 
 -- the parts of a reason's word
-parts : (k v : ℕ) → k < 256 → ((k * 256 + v * 4294967296) % 256 ≡ 0) × ((k * 256 + v * 4294967296) / 256 % 256 ≡ k)
+parts : (k v : ℕ) → k < 256
+    → ((k * 256 + v * 4294967296) % 256 ≡ 0) × ((k * 256 + v * 4294967296) / 256 % 256 ≡ k) × ((k * 256 + v * 4294967296) / 4294967296 ≡ v)
 parts k v h =
     let e : (k * 256 + v * 4294967296) / 256 ≡ k + v * 16777216 = omega arith in
-    (omega arith, rw e (omega (arith, h)))
+    (omega arith, rw e (omega (arith, h)), omega (arith, h))
 
 kind_small : (q : Reason) → kind_of q < 256
 kind_small (Segment i) = omega arith
@@ -78,29 +76,41 @@ crossed_part (Err r) =
     )
 
 module _ (confusion angular : Float) (l : List Float) (count : ℕ) (corners : List Float) where
-  pub explained_word_lem : leb 6 (length corners) ≡ true → {r : Explained} {w : ℕ} → ExplainPromise (tolerance_in confusion angular) l count (box_in corners) r
-      → w ≡ explained_word r → ExplainWord confusion angular l count corners w
-  unfolding explain_answer crossing_answer
-  explained_word_lem h {r} {w} p e =
-      let x = crossing_of (tolerance_in confusion angular) l count (box_in corners) in
-      let crossing : crossing_answer confusion angular l count corners ≡ crossed_word x = rw h in
-      record {
-        answer = rw (h, ← p.answer) e;
-        refused = ap number_in e ∙ explained_number r ∙ p.refused ∙ sym (ap number_in crossing ∙ crossed_number x);
-        crosses = λ k.
-            let n = named r (sym (ap kind_in e) ∙ k) in
-            ap crossed_in crossing ∙ (crossed_part x).0 (p.crosses n.0 n.1);
-        named = λ y.
-            let n = p.named ((crossed_part x).1 (sym (ap crossed_in crossing) ∙ y)) in
-            ap kind_in (e ∙ ap explained_word n.1) ∙ segment_kind n.0;
-      }
+  module _ {b : Aabb} (given : box_given corners ≡ Some b) where
+    told : (r : Explained) → ExplainPromise (tolerance_in confusion angular) l count b r → number_in (explained_word r) ≡ 0
+        → ReasonTold (tolerance_in confusion angular) l count corners (explained_word r)
+    unfolding reason_word
+    told (Ok q) p z =
+        let f = p.rule q refl in
+        let w = parts (kind_of q) (value_of q) (kind_small q) in
+        record { box = b; given = given; fit = f.0; reason = q; rule = f.1; kind = w.1; value = w.2 }
+    told (Err r) p z = absurd (unlike_zero r z)
 
-  pub unexplained : leb 6 (length corners) ≡ false → {w : ℕ} → w ≡ number_of Lent → ExplainWord confusion angular l count corners w
+    pub explained_word_lem : {r : Explained} {w : ℕ} → ExplainPromise (tolerance_in confusion angular) l count b r → w ≡ explained_word r
+        → ExplainWord confusion angular l count corners w
+    unfolding explain_answer crossing_answer
+    explained_word_lem {r} {w} p e =
+        let x = crossing_of (tolerance_in confusion angular) l count b in
+        let crossing : crossing_answer confusion angular l count corners ≡ crossed_word x = rw given in
+        record {
+          answer = rw (given, ← p.answer) e;
+          rule = rw e (told r p);
+          refused = ap number_in e ∙ explained_number r ∙ p.refused ∙ sym (ap number_in crossing ∙ crossed_number x);
+          crosses = λ k.
+              let n = named r (sym (ap kind_in e) ∙ k) in
+              ap crossed_in crossing ∙ (crossed_part x).0 (p.crosses n.0 n.1);
+          named = λ y.
+              let n = p.named ((crossed_part x).1 (sym (ap crossed_in crossing) ∙ y)) in
+              ap kind_in (e ∙ ap explained_word n.1) ∙ segment_kind n.0;
+        }
+
+  pub unexplained : box_given corners ≡ None → {w : ℕ} → w ≡ number_of Lent → ExplainWord confusion angular l count corners w
   unfolding explain_answer crossing_answer
   unexplained h {w} e =
       let crossing : crossing_answer confusion angular l count corners ≡ number_of Lent = rw h in
       record {
         answer = rw h e;
+        rule = λ z. absurd (unlike_zero Lent (sym (ap number_in e) ∙ z));
         refused = ap number_in (e ∙ sym crossing);
         crosses = λ k. ap crossed_in crossing ∙ (let z : ◌≡◌ {A = ℕ} 0 1 = sym (ap kind_in e) ∙ k in absurd (omega (arith, z)));
         named = λ y. absurd (let z : ◌≡◌ {A = ℕ} 0 1 = sym (ap crossed_in crossing) ∙ y in omega (arith, z));

@@ -26,6 +26,10 @@ crossed_in w = w / 2 ^ 8 % 2 ^ 8
 abbrev pub kind_in : ℕ → ℕ
 kind_in w = w / 2 ^ 8 % 2 ^ 8
 
+-- the upper four bytes of an explanation: the value beside the kind
+abbrev pub value_in : ℕ → ℕ
+value_in w = w / 2 ^ 32
+
 -- the same byte of a walk that is refused: the Newton round beside 9 and 21
 abbrev pub round_in : ℕ → ℕ
 round_in w = w / 2 ^ 8 % 2 ^ 8

@@ -20,19 +20,20 @@ crossed_word answer = refusal_of answer + 256 * pick (crossed_of answer) 1 0
 abbrev pub corner_at : List Float → ℕ → Point3D
 corner_at l at = point_of (get_or l at nan) (get_or l (at + 1) nan) (get_or l (at + 2) nan)
 
--- the corners: low x, y, z, then high
-abbrev pub box_in : List Float → Aabb
-box_in corners = record { low = corner_at corners 0; high = corner_at corners 3 }
-
--- the box, where six numbers are given
+-- the box of the corners given, low x, y, z, then high; none of fewer than six numbers
 unfoldable pub box_given : List Float → Option Aabb
-box_given corners = pick (leb 6 (length corners)) (Some (box_in corners)) None
+box_given corners = pick (leb 6 (length corners)) (Some (record { low = corner_at corners 0; high = corner_at corners 3 })) None
+
+-- the word of a call on that box, or 8 where there is none
+abbrev pub on_box : Option Aabb → (Aabb → ℕ) → ℕ
+on_box None word = number_of Lent
+on_box (Some b) word = word b
 
 -- "The parametric tolerance isn't read."
 abbrev pub tolerance_in : Float → Float → Tolerance
 tolerance_in confusion angular = record { confusion = confusion; angular = angular; parametric = bits 0 }
 
--- fewer than six corners answer 8
+-- the crossing's word for what C hands over
 unfoldable pub crossing_answer : Float → Float → List Float → ℕ → List Float → ℕ
 crossing_answer confusion angular buffer count corners =
-    pick (leb 6 (length corners)) (crossed_word (crossing_of (tolerance_in confusion angular) buffer count (box_in corners))) (number_of Lent)
+    on_box (box_given corners) (λ (b : Aabb). crossed_word (crossing_of (tolerance_in confusion angular) buffer count b))

@@ -8,12 +8,14 @@ use recorded::words::{RECORD, at_most, load, word};
 
 pub struct Crossings;
 
-// The lent points. The parameters are NaNs: no answer depends on them.
+// The lent points. The parameters are NaNs but for the last, which tells the points apart: no answer depends on them.
 fn points(bytes: &[u8; RECORD]) -> [[f64; 7]; 36] {
     let nan = f64::NAN;
     let mut points = [[nan; 7]; 36];
-    for (point, words) in points.iter_mut().zip(bytes[104..].chunks_exact(24)) {
+    let pairs = points.iter_mut().zip(bytes[104..].chunks_exact(24));
+    for (i, (point, words)) in pairs.enumerate() {
         load(words, &mut point[..3]);
+        point[6] = i as f64;
     }
     points
 }
