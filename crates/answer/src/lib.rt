@@ -19,7 +19,11 @@ fn line_of(answer: Result<Traced, Refusal>) -> ArrayString<LINE>
     ensures { result.bytes ≡ answer_line answer }
 {
     match answer {
-        Ok(line) => crate::line::trace_line(line),
+        Ok(line) => crate::line::trace_line(
+            line.count as u64,
+            line.start as u64,
+            line.closing.code() as u64,
+        ),
         Err(refusal) => crate::line::refused_line(refusal.number()),
     }
 }

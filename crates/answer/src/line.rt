@@ -1,11 +1,9 @@
 //! The text of the line that answers a job, in ASCII.
 ghost use Rattle.std.specs.Prelude.{◌≡◌, ◌+◌, ◌≤◌, ◌++◌};
 ghost use Rattle.arrayvec.specs.ArrayString.{array_string_len};
-ghost use Rattle.groups.specs.Traced.{code_of};
 ghost use Rattle.answer.specs.Line.{decimal_of, trace_line, refused_line};
 
 use arrayvec::ArrayString;
-use groups::Traced;
 use itoa::Buffer;
 
 // How many bytes the longest line has: `trace`, three numbers below 2^64, and what stands between.
@@ -21,17 +19,18 @@ fn push_number(text: &mut ArrayString<LINE>, n: u64)
     text.push_str(Buffer::new().format(n));
 }
 
-// The line of a trace.
-pub fn trace_line(line: Traced) -> ArrayString<LINE>
-    ensures { result.bytes ≡ trace_line line.count line.start (code_of line.closing) }
+// The line of a trace, of any three numbers.
+// Kept (1, 5): the text is one of any three numbers, and a `Traced` has three codes.
+pub fn trace_line(count: u64, start: u64, code: u64) -> ArrayString<LINE>
+    ensures { result.bytes ≡ trace_line count start code }
 {
     let mut trace = ArrayString::<LINE>::new();
     trace.push_str("trace ");
-    push_number(&mut trace, line.count as u64);
+    push_number(&mut trace, count);
     trace.push_str(" ");
-    push_number(&mut trace, line.start as u64);
+    push_number(&mut trace, start);
     trace.push_str(" ");
-    push_number(&mut trace, line.closing.code() as u64);
+    push_number(&mut trace, code);
     trace.push_str("\n");
     trace
 }

@@ -4,7 +4,7 @@ use Rattle.answer.proofs.line_of.Goals as goal
 
 pub returns-in-Ok : goal.returns-in-Ok
 unfolding answer_line
-returns-in-Ok c = rw (c.in-Ok.is) c.trace_line.ensures
+returns-in-Ok c = rw (c.in-Ok.is, ← c.code.ensures) c.trace_line.ensures
 
 pub returns-in-Err : goal.returns-in-Err
 unfolding answer_line
