@@ -49,6 +49,7 @@ written_word_lem {after = after} {r = r} p e =
       answer = e ∙ ap written_word p.writes.answer;
       file = p.writes.file;
       reads_back = λ z t h. ap (λ (k : ℕ). read_v1 (take k after) t) (ap bytes_in e ∙ word_bytes r) ∙ p.writes.reads_back (sym n ∙ z) t h;
+      same_code = λ z. p.writes.same_code (sym n ∙ z);
       passing = λ a b tol q. n ∙ p.passing a b tol q;
     }
 

@@ -66,8 +66,8 @@ module _ {a b : Patch} {tol : Tolerance} {guess : Parameters} {cap : ℕ} {befor
       record { count = omega (arith, m); start = omega (arith, m, s); closing = omega (arith, k); round = omega arith; column = omega arith }
 
 -- so a line has
-pub line_fits : {r : TraceAnswer} {t : Traced} → r ≡ Ok t → Bounded r → (t.count < 4294967296) × (t.start < 65536)
-line_fits e h = let b = subst Bounded e h in (b.count, b.start)
+pub line_fits : {r : TraceAnswer} {t : Traced} → r ≡ Ok t → Bounded r → (t.count < 4294967296) × ((t.start < 65536) × (code_of t.closing < 256))
+line_fits e h = let b = subst Bounded e h in (b.count, (b.start, b.closing))
 
 pub added_told : {t : TraceAnswer} {q : Refusal} → t ≡ Err q → Bounded t → (round_of q < 256) × (column_of q < 65536)
 added_told e h = let b = subst Bounded e h in (b.round, b.column)

@@ -6,7 +6,7 @@ use Rattle.wire.specs.Wire.{AllBytes}
 use Rattle.refusal.specs.declared.Refusal.TheVariants as refusal
 use Rattle.refusal.specs.Refusal.{number_of}
 use Rattle.geometry.specs.declared.tolerance.Tolerance.{Tolerance}
-use Rattle.groups.specs.Traced.{closing_at, traced, Outcome, outcome}
+use Rattle.groups.specs.Traced.{closing_at, code_of, traced, Outcome, outcome}
 use Rattle.patch.specs.declared.patch.Patch.{Patch}
 use Rattle.certificate.specs.Passes.{Passes}
 use Rattle.trace_file.specs.Write.{Written}
@@ -35,6 +35,8 @@ pub record WriteWord (l : List Float) (count start code : ℕ) (before after : L
   -- a low byte of 0: as many bytes as the word says, read into room enough, give the trace back
   pub reads_back : number_in w ≡ 0 → (t : List Float) → width1 * count ≤ length t
       → read_v1 (take (bytes_in w) after) t ≡ outcome (traced count start (closing_at code)) (written (take (width1 * count) l) t)
+  -- with the code that was handed over
+  pub same_code : number_in w ≡ 0 → code_of (closing_at code) ≡ code
   -- a trace that passes the check is written where there is room, and refused by 8 where there is not
   pub passing : (a b : Patch) (tol : Tolerance) → Passes a b tol l count start code → number_in w ≡ pick (leb (file_bytes width1 count) (length before)) 0 (number_of refusal.Lent)
 

@@ -25,6 +25,7 @@ use Rattle.groups.specs.Groups.{holds_of}
 use Rattle.groups.specs.Traced.{TraceAnswer}
 use Rattle.groups.specs.Traced.{closing_at, traced, Outcome, outcome, count_of, start_of, closing_of}
 use Rattle.groups.specs.Traced as trace
+use Rattle.groups.proofs.Closings.{code_back}
 use Rattle.geometry.specs.declared.tolerance.Tolerance.{Tolerance}
 use Rattle.patch.specs.declared.patch.Patch.{Patch}
 use Rattle.certificate.specs.Passes.{Passes}
@@ -38,7 +39,7 @@ use Rattle.trace_file.specs.Write as write
 use Rattle.trace_file.specs.Read.{read_of}
 use Rattle.trace_file.proofs.Numbers.{all_each}
 use Rattle.trace_file.proofs.Header.{file_length}
-use Rattle.trace_file.proofs.Fitness.{fits_claim, WriteFit, write_fit}
+use Rattle.trace_file.proofs.Fitness.{fits_claim, claim_fits_lem, WriteFit, write_fit}
 use Rattle.trace_file.proofs.Back.{written_reads, read_again, one_file}
 use Rattle.passing.specs.Promises.{WritePromise, WriteV1Promise, ReadPromise}
 
@@ -64,12 +65,16 @@ module _ (version w : ℕ) (l : List Float) (count start code : ℕ) (before : L
         answer = ap (λ (o : write.Filed). o.answer) e;
         file = ap (λ (o : write.Filed). o.file) e;
         reads_back = back;
+        same_code = λ z. code_back code (claim_fits_lem (passed z).0.claim).3;
       }
     where
+      passed : write.refusal_of r ≡ 0 → Whole (write_of version w l count start code before)
+      passed z = write_passed (ap (λ (o : write.Filed). write.refusal_of o.answer) (sym e) ∙ z)
+
       back : write.refusal_of r ≡ 0 → (t : List Float) → w * count ≤ length t
           → read_of version w (take (bytes_of r) after) t ≡ outcome (traced count start (closing_at code)) (written (take (w * count) l) t)
       back z t h =
-          let p = write_passed (ap (λ (o : write.Filed). write.refusal_of o.answer) (sym e) ∙ z) in
+          let p = passed z in
           let q = e ∙ p.1 in
           let n = file_length version w l count start code p.0.lent in
           let front : take (bytes_of r) after ≡ file_of version w l count start code =

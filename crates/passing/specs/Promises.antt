@@ -22,7 +22,7 @@ use Rattle.refusal.specs.Verdict as verdict
 use Rattle.groups.specs.Groups.{most_points}
 use Rattle.groups.specs.Row.{numbers_of, row_at}
 use Rattle.groups.specs.Traced.{TraceAnswer}
-use Rattle.groups.specs.Traced.{closing_at, traced, outcome, count_of, start_of, closing_of}
+use Rattle.groups.specs.Traced.{closing_at, code_of, traced, outcome, count_of, start_of, closing_of}
 use Rattle.groups.specs.Traced as trace
 use Rattle.walk.specs.Trace.{call_fitness, trace_of}
 use Rattle.boxes.specs.declared.boxtree.Aabb.{Aabb}
@@ -146,6 +146,8 @@ pub record WritePromise (version w : ℕ) (l : List Float) (count start closing 
   -- "Reading what was written, into room enough, returns the trace bit for bit"
   pub reads_back : write.refusal_of r ≡ 0 → (t : List Float) → w * count ≤ length t
       → read_of version w (take (bytes_of r) after) t ≡ outcome (traced count start (closing_at closing)) (written (take (w * count) l) t)
+  -- with the code that was handed over
+  pub same_code : write.refusal_of r ≡ 0 → code_of (closing_at closing) ≡ closing
 
 -- the same for version 1, which has the numbers of a trace that the check reads
 pub record WriteV1Promise (l : List Float) (count start closing : ℕ) (before after : List ℕ) (r : Written) : Type 0 where

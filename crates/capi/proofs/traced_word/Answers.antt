@@ -13,7 +13,7 @@ added_small c =
     rw c.numbers-n.ensures (added_told c.in-Err.is c.requires)
 
 pub line_word-requires : goal.line_word-requires
-line_word-requires c = line_fits c.in-Ok.is c.requires
+line_word-requires c = let h = line_fits c.in-Ok.is c.requires in (h.0, h.1.0)
 
 pub overflow_mul-result : goal.overflow_mul-result
 overflow_mul-result c = let h = added_small (goal.at.overflow_mul-result c).After-numbers-n in omega (arith, h.0)
