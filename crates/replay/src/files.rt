@@ -7,6 +7,12 @@ use recorded::words::{RECORD, at_most, differ, load, word};
 
 pub struct Files;
 
+// Records of a list whose number no kind has: as those of trace files, with no words behind.
+pub struct Others;
+
+// What the line of either list calls it.
+const WHAT: &str = "trace files";
+
 // Where the words that follow begin, and how many there are at most.
 const NUMBERS: usize = 64;
 
@@ -47,7 +53,7 @@ fn same_read(bytes: &[u8; RECORD]) -> bool {
 }
 
 impl Compared for Files {
-    const NAME: &'static str = "trace files";
+    const NAME: &'static str = WHAT;
 
     fn size() -> usize {
         NUMBERS
@@ -63,5 +69,17 @@ impl Compared for Files {
         } else {
             same_read(bytes)
         }
+    }
+}
+
+impl Compared for Others {
+    const NAME: &'static str = WHAT;
+
+    fn size() -> usize {
+        NUMBERS
+    }
+
+    fn same(bytes: &[u8; RECORD]) -> bool {
+        Files::same(bytes)
     }
 }

@@ -12,9 +12,11 @@ pub enum Kind {
     Traces,
     Checks,
     Files,
+    Other,
 }
 
-// Kept (1): a number of no kind counts as trace files; the lists stand in this repository, and the program has no answer to another number.
+// Kept (1): a number of no kind has records like those of trace files with no words behind them (`files::Others`); the lists stand in this
+// repository, and the program has no answer to another number.
 impl From<u64> for Kind {
     fn from(number: u64) -> Kind {
         match number {
@@ -28,7 +30,8 @@ impl From<u64> for Kind {
             7 => Kind::Jobs,
             8 => Kind::Traces,
             9 => Kind::Checks,
-            _ => Kind::Files,
+            10 => Kind::Files,
+            _ => Kind::Other,
         }
     }
 }

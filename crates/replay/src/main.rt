@@ -22,7 +22,7 @@ mod traces;
 use checks::Checks;
 use compared::Compared;
 use crossings::Crossings;
-use files::Files;
+use files::{Files, Others};
 use kind::Kind;
 use recorded::words::{next, word};
 use roots::Roots;
@@ -57,6 +57,7 @@ fn list<R: Read, W: Write>(input: &mut R, output: &mut W) -> io::Result<bool> {
         Kind::Traces => Traces::replay(records, input, output),
         Kind::Checks => Checks::replay(records, input, output),
         Kind::Files => Files::replay(records, input, output),
+        Kind::Other => Others::replay(records, input, output),
     }?;
     Ok(true)
 }
