@@ -1,5 +1,6 @@
 // `leaving` of the Rust.
 ghost use Rattle.std.specs.Prelude.{◌≡◌};
+ghost use Rattle.number.specs.Operators.{◌<?◌};
 ghost use Rattle.marching.specs.Leaving.{lesser_of, consider_of, first_exit, leaving_of};
 
 use patch::{Parameters, Patch, Window};
@@ -22,7 +23,11 @@ struct First {
 fn lesser(first: Option<First>, other: First) -> Option<First>
     ensures { result ≡ lesser_of first other.exit.index other.exit.bound other.fraction }
 {
-    if first.is_none_or(|found| other.fraction < found.fraction) {
+    if first.is_none_or(
+        |found|
+            ensures { result ≡ (other.fraction <? found.fraction) }
+        { other.fraction < found.fraction },
+    ) {
         Some(other)
     } else {
         first

@@ -1,6 +1,6 @@
 use Rattle.std.proofs.Common.{Err, List, rules}
 use mathlib.Core.Path.{◌≡◌, refl, ap, ap₂, ◌∙◌}
-use mathlib.Core.Bool.{true}
+use mathlib.Core.Bool.{true, false}
 use Prim.Native.Nat.{ℕ}
 use lib.Dec.{eqb, leb}
 use lib.ListN.{length}
@@ -36,7 +36,9 @@ returns-in_err-head c =
     let there = test_held refusal.TraceFile c.asked.ensures c.in_ok-asked.was refl in
     let versioned = test_held refusal.TraceFile c.asked-2.ensures c.in_ok-asked-2.was refl in
     let no = head_refused _ _ _ c.try_from.ensures c.in_err-head.was in
-    rw (e, there, versioned, ← c.uint.ensures.value, ← c.uint-2.ensures.value, no.0, no.1)
+    let s = c.args.file.now in
+    let claim : claim_fits (count_in s) (start_in s) (code_in s) ≡ false = rw (c.uint.ensures.value, c.uint-2.ensures.value) at no.0 in
+    rw (e, there, versioned, claim, no.1)
 
 -- where the claim is let through
 module _ (c : In_ok-head) where
