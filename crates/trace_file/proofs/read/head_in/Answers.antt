@@ -1,6 +1,6 @@
-use Rattle.std.proofs.Common.{Err, List, rules}
+use Rattle.std.proofs.Common.{Err, List, ◌&&◌, rules}
 use mathlib.Core.Path.{◌≡◌, refl, ap, ap₂, ◌∙◌}
-use mathlib.Core.Bool.{true, false}
+use mathlib.Core.Bool.{Bool, true, false}
 use Prim.Native.Nat.{ℕ}
 use lib.Dec.{eqb, leb}
 use lib.ListN.{length}
@@ -13,6 +13,13 @@ use Rattle.trace_file.specs.File.{claim_fits, count_in, start_in, code_in, heade
 use Rattle.trace_file.proofs.Fitness.{head_given, head_refused, test_held, test_failed}
 use Rattle.trace_file.proofs.read.head_in.Goals as goal
 use Rattle.trace_file.proofs.read.head_in.Goals.{In_ok-head}
+
+-- the third test fails behind two that hold, and the fifth behind four
+third : {a b d : Bool} → a ≡ true → b ≡ true → d ≡ false → (f : Bool) → a && (b && (d && f)) ≡ false
+third h k l f = rw (h, k, l) refl
+
+fifth : {a b d f g : Bool} → a ≡ true → b ≡ true → d ≡ true → f ≡ true → g ≡ false → a && (b && (d && (f && g))) ≡ false
+fifth h k l m n = rw (h, k, l, m, n) refl
 
 pub returns-in_err-asked : goal.returns-in_err-asked
 unfolding header_fits
@@ -38,7 +45,8 @@ returns-in_err-head c =
     let no = head_refused _ _ _ c.try_from.ensures c.in_err-head.was in
     let s = c.args.file.now in
     let claim : claim_fits (count_in s) (start_in s) (code_in s) ≡ false = rw (c.uint.ensures.value, c.uint-2.ensures.value) at no.0 in
-    rw (e, there, versioned, claim, no.1)
+    let fits : header_fits c.args.format.version c.args.format.width s ≡ false = third there versioned claim (length_agrees c.args.format.width s) in
+    rw (e, fits, no.1)
 
 -- where the claim is let through
 module _ (c : In_ok-head) where
@@ -78,7 +86,8 @@ returns-in_err-asked-4 c =
     let e : c.from_residual-in_err-asked-4.result ≡ Err c.in_err-asked-4.field-0.0 = search rules in
     let agrees = test_held refusal.TraceFile c.asked-3.ensures c.in_ok-asked-3.was (ap₂ eqb c.uint-3.ensures.value (long k c.from-length.ensures c.following.ensures)) in
     let no = test_failed refusal.TraceFile c.asked-4.ensures c.in_err-asked-4.was (ap (eqb (length c.args.file.now)) (whole k c.file_bytes.ensures)) in
-    rw (e, there k, versioned k, claim k, agrees, no.0, no.1)
+    let fits : header_fits c.args.format.version c.args.format.width c.args.file.now ≡ false = fifth (there k) (versioned k) (claim k) agrees no.0 in
+    rw (e, fits, no.1)
 
 pub returns : goal.returns
 unfolding header_fits length_agrees
