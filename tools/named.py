@@ -17,8 +17,8 @@ import os
 import re
 import sys
 
-# (docs/PORT.md and docs/DESIGN-PASS.md set old names beside new ones.)
-DOCUMENTS = ['README.md', 'NOTICE', *sorted({*glob.glob('docs/*.md')} - {'docs/PORT.md', 'docs/DESIGN-PASS.md'}), *sorted(glob.glob('docs/parts/*.md'))]
+# (docs/PORT.md, docs/DESIGN-PASS.md and docs/LOOK-BACK.md set old names beside new ones.)
+DOCUMENTS = ['README.md', 'NOTICE', *sorted({*glob.glob('docs/*.md')} - {'docs/PORT.md', 'docs/DESIGN-PASS.md', 'docs/LOOK-BACK.md'}), *sorted(glob.glob('docs/parts/*.md'))]
 PATH = re.compile(r'(?<![\w/.-])((?:[\w.-]+/)+[\w.-]*\w)')
 WORD = re.compile(r"[A-Za-z_][\w'′]*(?:-[\w→]+)*\??")
 # Words of the Rust, of fdlibm's C, of a usage line, of a foreign command, of a verdict or of an older kit that need not be in the tree.
